@@ -2,10 +2,12 @@
 ghost use Rattle.std.specs.Prelude.{IfOk};
 ghost use Rattle.host_port.specs.Calls.{FitsLoad};
 
-use crate::files::{give_staged, remove_file, rename_file, write_file};
-use crate::kinds::{is_absence, is_empty_place, refuse_own};
+use crate::deliveries::{Part, put_anyhow, staged_bytes};
+use crate::files::{give_staged, remove_file, rename_file, sync_name, write_file};
+use crate::folders::Folders;
+use crate::kinds::{is_absence, is_empty_place, is_folder, refuse_own, user};
 use crate::locks::{Marks, lock, locker_of, refuse_broken, refuse_unlocked, unlock};
-use crate::paths::{Place, actor_of, is_staged, path_of, place_of};
+use crate::paths::{Place, actor_of, is_staged, path_of, place_before_link, place_of};
 use crate::reading::load;
 use crate::reasons::FileError;
 use crate::rights::Rights;
@@ -14,6 +16,7 @@ use crate::tails::extend;
 use host_port::LoadAnswer;
 use std::alloc::Global;
 use std::fs::{File, Files};
+use std::io::{Eprint, ErrorKind};
 use std::process::Processes;
 use std::time::{Clock, Duration};
 
@@ -24,16 +27,62 @@ pub struct Disk {
     alloc: Global,
     wait: Duration,
     actor: Option<String>,
+    folders: Folders,
     rights: Rights,
     marks: Marks,
+    delivers: bool,
+    found: Option<Found>,
 }
 
-// Whether a name stands for no file, and can stand for none: the reason why it has no place.
+/// A staged file that was found: the file that it is staged for, and the digits of its token.
+#[derive(Drop)]
+struct Found {
+    file: String,
+    digits: String,
+}
+
+fn found_of(place: Place) -> Option<Found> {
+    match place {
+        Place::Staged {
+            path: _path,
+            file,
+            digits,
+        } => Some(Found { file, digits }),
+        Place::Own(_path) => None,
+        Place::File(_path) => None,
+    }
+}
+
+// Whether a name stands for no file, and can stand for none: the reason why it has no place. None of a run's own files
+// is made where another user could put something in its place.
 fn names_nothing(error: &FileError) -> bool {
     match error {
         FileError::NotText => true,
         FileError::System(error) => is_absence(error),
+        FileError::SharedFolder { is_empty } => *is_empty,
         _ => false,
+    }
+}
+
+// Whether the reason why a name has no place says that its file is absent. Of a staged file it says so too if no file
+// can be there.
+fn is_nowhere(name: &[u8], error: &FileError) -> bool {
+    match error {
+        FileError::System(error) => {
+            error.kind() == ErrorKind::NotFound || (is_staged(name) && is_absence(error))
+        }
+        FileError::SharedFolder { is_empty } => *is_empty,
+        _ => false,
+    }
+}
+
+// No file, and no lock on it.
+fn absent() -> LoadAnswer
+    ensures { FitsLoad result.bytes }
+{
+    LoadAnswer {
+        bytes: None,
+        held: false,
     }
 }
 
@@ -43,43 +92,117 @@ impl Disk {
             alloc,
             wait,
             actor: None,
+            folders: Folders::new(alloc),
             rights: Rights::new(alloc),
             marks: Marks::new(alloc),
+            delivers: false,
+            found: None,
         }
     }
 
-    fn place<R: Files>(&self, rt: &R, name: &[u8]) -> Result<Place, FileError> {
-        place_of(rt, self.alloc, self.actor.as_ref(), name)
+    /// The run delivers: its commits only add to mailboxes. Run by the system's administrator it goes on whatever others
+    /// do to theirs under its locks.
+    pub fn deliver(&mut self) {
+        self.delivers = user() == 0;
+    }
+
+    fn place<R: Files<File = File>>(&mut self, rt: &R, name: &[u8]) -> Result<Place, FileError> {
+        place_of(rt, self.alloc, &mut self.folders, self.actor.as_ref(), name)
     }
 
     fn helper(&self) -> Helper<'_> {
         Helper::new(self.alloc, &self.rights)
     }
 
-    // The place of a name, or None if no file can have it.
-    fn place_if_any<R: Files>(&self, rt: &R, name: &[u8]) -> Result<Option<Place>, FileError> {
+    // The place of a name that a record may have: a link that another has put there since is what stands in its place.
+    fn place_after<R: Files<File = File>>(
+        &mut self,
+        rt: &R,
+        name: &[u8],
+    ) -> Result<Place, FileError> {
         match self.place(rt, name) {
+            Err(FileError::AnothersLink) if self.delivers => place_before_link(
+                rt,
+                self.alloc,
+                &mut self.folders,
+                name,
+            ),
+            answer => answer,
+        }
+    }
+
+    // The place of a name, or None if no file can have it.
+    fn place_if_any<R: Files<File = File>>(
+        &mut self,
+        rt: &R,
+        name: &[u8],
+    ) -> Result<Option<Place>, FileError> {
+        match self.place_after(rt, name) {
             Ok(place) => Ok(Some(place)),
             Err(error) if names_nothing(&error) => Ok(None),
             Err(error) => Err(error),
         }
     }
 
-    pub fn load<R: Files + Clock>(
-        &self,
+    pub fn load<R: Files<File = File> + Clock + Eprint>(
+        &mut self,
         rt: &R,
         alloc: Global,
         name: &[u8],
     ) -> Result<LoadAnswer, FileError>
         ensures { IfOk result (λ a. FitsLoad a.bytes) }
     {
-        let place = self.place(rt, name)?;
-        load(rt, alloc, &self.marks, &place, self.wait)
+        if is_staged(name) {
+            return self.load_staged(rt, alloc, name);
+        }
+        let place = match self.place(rt, name) {
+            Err(error) if is_nowhere(name, &error) => return Ok(absent()),
+            answer => answer?,
+        };
+        let answer = load(rt, alloc, &self.marks, &place, self.wait)?;
+        if let Place::Own(path) = &place
+            && answer.bytes.is_some()
+        {
+            // a run that was stopped may have put it in place, and its name not have reached the device
+            sync_name(rt, path.as_str())?;
+        }
+        Ok(answer)
+    }
+
+    // Loads what was staged. In a delivery what another has put in its place is none.
+    fn load_staged<R: Files<File = File> + Clock + Eprint>(
+        &mut self,
+        rt: &R,
+        alloc: Global,
+        name: &[u8],
+    ) -> Result<LoadAnswer, FileError>
+        ensures { IfOk result (λ a. FitsLoad a.bytes) }
+    {
+        let place = match self.place_after(rt, name) {
+            Err(error) if is_nowhere(name, &error) => return Ok(absent()),
+            answer => answer?,
+        };
+        let answer = match load(rt, alloc, &self.marks, &place, self.wait) {
+            Ok(answer) => answer,
+            Err(FileError::NotRegular) if self.delivers => absent(),
+            Err(error) => return Err(error),
+        };
+        self.found = found_of(place);
+        Ok(answer)
+    }
+
+    // The digits of the lock on a file, as far as this run has put it, or has found what is staged for the file.
+    fn digits_of(&self, path: &str) -> Option<&str> {
+        match (self.marks.digits_of(path), &self.found) {
+            (Some(digits), _) => Some(digits),
+            (None, Some(found)) if found.file.as_str() == path => Some(found.digits.as_str()),
+            _ => None,
+        }
     }
 
     /// Writes a whole file.
     pub fn stage<R: Files<File = File> + Processes>(
-        &self,
+        &mut self,
         rt: &R,
         name: &[u8],
         bytes: &[u8],
@@ -100,8 +223,8 @@ impl Disk {
     }
 
     /// Puts a staged file into its place, if the lock of that file stands and the file is as it was locked.
-    pub fn publish<R: Files<File = File> + Processes>(
-        &self,
+    pub fn publish<R: Files<File = File> + Processes + Clock>(
+        &mut self,
         rt: &R,
         from: &[u8],
         to: &[u8],
@@ -110,18 +233,45 @@ impl Disk {
             return Ok(false);
         };
         if is_empty_place(rt, from.path()) {
+            // a run that was stopped may have put it in place, and that not have reached the device
+            sync_name(rt, from.path())?;
             return Ok(false);
         }
-        let to = self.place(rt, to)?;
+        let to = self.place_after(rt, to)?;
         match &from {
-            Place::Staged { path, file, digits } if file.as_str() == to.path() => self.put_in_place(
-                rt,
-                path.as_str(),
-                file.as_str(),
-                digits.as_str(),
-            ),
+            Place::Staged { path, file, digits } if file.as_str() == to.path() => {
+                let (path, file, digits) = (path.as_str(), file.as_str(), digits.as_str());
+                match self.put_in_place(rt, path, file, digits) {
+                    Err(error) if self.delivers && error.is_of_others() => self.put_behind(
+                        rt, path, file, digits,
+                    ),
+                    answer => answer,
+                }
+            }
             _ => rename_file(rt, from.path(), to.path()),
         }
+    }
+
+    // Puts what was staged for a mailbox that wasn't there behind what another has put there since.
+    fn put_behind<R: Files<File = File> + Clock>(
+        &self,
+        rt: &R,
+        staged: &str,
+        file: &str,
+        digits: &str,
+    ) -> Result<bool, FileError> {
+        let Some(text) = staged_bytes(rt, self.alloc, staged)? else {
+            return Ok(false);
+        };
+        let part = Part {
+            digits,
+            at: 0,
+            text: text.as_slice(),
+        };
+        put_anyhow(rt, self.alloc, file, part, self.wait)?;
+        let _ = rt.remove_file(staged);
+        sync_name(rt, staged)?;
+        Ok(true)
     }
 
     // Puts what was staged by the token with these digits in the place of its file.
@@ -144,20 +294,43 @@ impl Disk {
     }
 
     /// Gives a file another tail, if the lock of a run that has staged that tail stands, and nobody else has added to
-    /// the file.
-    pub fn extend<R: Files<File = File>>(
-        &self,
+    /// the file. In a delivery others may have done so, or have taken the file or the lock away.
+    pub fn extend<R: Files<File = File> + Clock>(
+        &mut self,
         rt: &R,
         name: &[u8],
         at: u64,
         tail: &[u8],
     ) -> Result<(), FileError> {
-        let place = self.place(rt, name)?;
-        extend(rt, self.alloc, &self.marks, place.path(), at, tail)
+        let place = match self.place_after(rt, name) {
+            // the folder is gone, and what was to be put there with it
+            Err(error) if self.delivers && names_nothing(&error) => return Ok(()),
+            answer => answer?,
+        };
+        let path = place.path();
+        let known = self.digits_of(path);
+        match (
+            extend(rt, self.alloc, &self.marks, known, path, at, tail),
+            known,
+        ) {
+            (Err(error), Some(digits)) if self.delivers && error.is_of_others() => {
+                let part = Part {
+                    digits,
+                    at,
+                    text: tail,
+                };
+                put_anyhow(rt, self.alloc, path, part, self.wait)
+            }
+            (answer, _) => answer,
+        }
     }
 
     /// Takes a file away: one of mailx's own making, or one whose lock stands and that is as it was locked.
-    pub fn erase<R: Files + Processes>(&self, rt: &R, name: &[u8]) -> Result<(), FileError> {
+    pub fn erase<R: Files<File = File> + Processes>(
+        &mut self,
+        rt: &R,
+        name: &[u8],
+    ) -> Result<(), FileError> {
         let place = match self.place_if_any(rt, name) {
             Ok(Some(place)) => place,
             Ok(None) => return Ok(()),
@@ -171,6 +344,7 @@ impl Disk {
             }
         }
         match remove_file(rt, &place) {
+            Err(_) if self.delivers && is_staged(name) && is_folder(rt, place.path()) => Ok(()),
             Err(refusal) => self.have_erased(rt, &place, refusal),
             answer => answer,
         }
@@ -185,8 +359,8 @@ impl Disk {
     ) -> Result<(), FileError> {
         match place {
             Place::Staged { file, digits, .. } => {
-                let errand = Errand::of(Operation::Discard, file.as_str(), digits.as_str());
-                self.helper().have_done(rt, &errand, refusal)
+                let helper = self.helper();
+                helper.have_discarded(rt, file.as_str(), digits.as_str(), refusal)
             }
             Place::File(path) if !path.ends_with(".lock") => {
                 let digits = locker_of(rt, self.alloc, path.as_str())?;
@@ -197,7 +371,7 @@ impl Disk {
         }
     }
 
-    pub fn lock<R: Files + Clock + Processes>(
+    pub fn lock<R: Files<File = File> + Clock + Processes + Eprint>(
         &mut self,
         rt: &R,
         name: &[u8],
@@ -210,7 +384,7 @@ impl Disk {
         lock(rt, &helper, &mut self.marks, path, token, self.wait)
     }
 
-    pub fn unlock<R: Files + Processes>(
+    pub fn unlock<R: Files<File = File> + Processes>(
         &mut self,
         rt: &R,
         name: &[u8],
@@ -244,12 +418,18 @@ impl Disk {
         if self.rights.has(name) {
             return Ok(true);
         }
+        self.folders.forget_ways();
         self.know_actor(name)?;
-        let place = self.place(rt, name)?;
-        self.rights.take(rt, self.alloc, name, &place, self.wait)
+        let place = match self.place(rt, name) {
+            Err(FileError::SharedFolder { is_empty: true }) => None,
+            answer => Some(answer?),
+        };
+        self.rights
+            .take(rt, self.alloc, name, place.as_ref(), self.wait)
     }
 
     pub fn release(&mut self, name: &[u8]) {
         self.rights.give_up(name);
+        self.folders.forget_ways();
     }
 }

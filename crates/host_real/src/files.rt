@@ -1,6 +1,7 @@
 // Whole files, each written, renamed and removed durably: what was done is there after the machine stops.
 use crate::kinds::{
-    is_absence, is_closed_folder, is_denied, is_empty_place, is_out_of_reach, look, stands_at, user,
+    is_absence, is_closed_folder, is_denied, is_empty_place, is_out_of_reach, look, open_both,
+    stands_at, user,
 };
 use crate::paths::{Place, folder_of};
 use crate::reasons::FileError;
@@ -14,9 +15,13 @@ pub const PRIVATE: u32 = 0o600;
 /// The bits of a file's mode that say who may do what with it.
 const MODE_BITS: u32 = 0o7777;
 
-// Waits until the names in the folder of a path have reached the device.
+// Waits until the names in the folder of a path have reached the device. What is no folder isn't opened: it may be a pipe.
 fn sync_folder<R: Files>(rt: &R, path: &str) -> Result<(), Error> {
-    let folder = File::open(rt, folder_of(path))?;
+    let folder = folder_of(path);
+    if !rt.metadata(folder)?.is_dir() {
+        return Err(Error::from(ErrorKind::NotADirectory));
+    }
+    let folder = File::open(rt, folder)?;
     folder.sync_all()
 }
 
@@ -73,7 +78,7 @@ pub fn give_staged<R: Files<File = File>>(
     let Some(found) = anothers_file(rt, replaced)? else {
         return Ok(());
     };
-    let file = match OpenOptions::new().write(true).open(rt, staged) {
+    let file = match open_both(rt, staged) {
         Ok(file) => file,
         Err(error) if error.kind() == ErrorKind::NotFound => return Ok(()),
         Err(error) => return Err(FileError::from(error)),
@@ -116,7 +121,8 @@ pub fn write_new<R: Files>(
     }
 }
 
-// Writes a new file, and gives it another name too. False if a file of that name is there.
+// Writes a new file, and gives it another name too. False if another file of that name is there: a link that was done may
+// be answered so, over a network.
 fn linked<R: Files, F: Write + OpenFile>(
     rt: &R,
     file: &mut F,
@@ -128,7 +134,11 @@ fn linked<R: Files, F: Write + OpenFile>(
     file.sync_all()?;
     match rt.hard_link(beside, path) {
         Ok(()) => Ok(true),
-        Err(error) if error.kind() == ErrorKind::AlreadyExists => Ok(false),
+        Err(error) if error.kind() == ErrorKind::AlreadyExists => stands_at(
+            rt,
+            path,
+            &file.metadata()?,
+        ),
         Err(error) => Err(error),
     }
 }
@@ -155,8 +165,8 @@ fn keeps_nothing(error: &Error) -> bool {
     is_closed_folder(error) || error.kind() == ErrorKind::InvalidInput
 }
 
-// Makes it last that a file is absent.
-fn sync_absence<R: Files>(rt: &R, path: &str) -> Result<(), FileError> {
+/// Makes it last that a name stands in its folder, or that none does, as far as names of the folder last.
+pub fn sync_name<R: Files>(rt: &R, path: &str) -> Result<(), FileError> {
     match sync_folder(rt, path) {
         Err(error) if !keeps_nothing(&error) => Err(FileError::from(error)),
         _ => Ok(()),
@@ -176,7 +186,7 @@ pub fn remove_file<R: Files>(rt: &R, place: &Place) -> Result<(), FileError> {
     let path = place.path();
     match rt.remove_file(path) {
         Ok(()) => Ok(sync_folder(rt, path)?),
-        Err(error) if error.kind() == ErrorKind::NotFound => sync_absence(rt, path),
+        Err(error) if error.kind() == ErrorKind::NotFound => sync_name(rt, path),
         Err(error) if is_gone(rt, place, &error) => Ok(()),
         Err(error) => Err(FileError::from(error)),
     }

@@ -2,9 +2,10 @@
 use crate::paths::{folder_of, last_part, own_paths};
 use crate::reasons::FileError;
 use std::alloc::Global;
-use std::fs::{Files, Metadata, OpenOptions};
+use std::fs::{File, Files, Metadata, OpenOptions};
 use std::io::{Error, ErrorKind};
-use std::os::unix::fs::MetadataExt;
+use std::os::unix::fs::{FileTypeExt, MetadataExt};
+use std::time::SystemTime;
 
 /// The mode bits of a folder in which each may make files and none may remove those of another.
 const SHARED_FOLDER: u32 = 0o1002;
@@ -25,6 +26,7 @@ pub struct Stamp {
     modified_nanos: i64,
     changed: i64,
     changed_nanos: i64,
+    born: Option<SystemTime>,
 }
 
 impl Stamp {
@@ -37,6 +39,7 @@ impl Stamp {
             modified_nanos: found.mtime_nsec(),
             changed: found.ctime(),
             changed_nanos: found.ctime_nsec(),
+            born: found.created().ok(),
         }
     }
 
@@ -44,6 +47,26 @@ impl Stamp {
     pub fn is_later(&self, other: &Stamp) -> bool {
         self.changed > other.changed
             || (self.changed == other.changed && self.changed_nanos > other.changed_nanos)
+    }
+
+    /// Whether the file was there before the other one was made, and was last written before the other changed, whatever
+    /// has become of its names, its mode and what else is known of it. Only its owner can set these times back.
+    pub fn was_written_before(&self, other: &Stamp) -> bool {
+        let is_older = match (self.born, other.born) {
+            (Some(one), Some(other)) => one <= other,
+            _ => false,
+        };
+        let is_written_later = self.modified > other.changed
+            || (self.modified == other.changed && self.modified_nanos > other.changed_nanos);
+        is_older && !is_written_later
+    }
+
+    /// Whether it is the same file, of the same length and written last at the same moment.
+    pub fn has_bytes_of(&self, other: &Stamp) -> bool {
+        self.is_file_of(other)
+            && self.length == other.length
+            && self.modified == other.modified
+            && self.modified_nanos == other.modified_nanos
     }
 
     /// Whether it is the same file, changed or not.
@@ -60,6 +83,11 @@ pub fn user() -> u32 {
 /// Whether an error says that the permission is lacking, as of a folder that may not be written.
 pub fn is_denied(error: &Error) -> bool {
     error.raw_os_error() == Some(DENIED)
+}
+
+/// That error.
+pub fn denial() -> Error {
+    Error::from_raw_os_error(DENIED)
 }
 
 /// Whether an error says that nothing stands at the path, since nothing is there or none can be.
@@ -101,6 +129,14 @@ pub fn is_empty_place<R: Files>(rt: &R, path: &str) -> bool {
     }
 }
 
+/// Whether a folder stands at a path, itself and not behind a link.
+pub fn is_folder<R: Files>(rt: &R, path: &str) -> bool {
+    match rt.symlink_metadata(path) {
+        Ok(found) => found.is_dir(),
+        Err(_) => false,
+    }
+}
+
 // The nearest folder around a path that can be looked at is another user's.
 fn stands_behind_another<R: Files>(rt: &R, path: &str) -> bool {
     let mut folder = folder_of(path);
@@ -124,14 +160,13 @@ pub fn is_out_of_reach<R: Files>(rt: &R, path: &str) -> bool {
     }
 }
 
-/// Whether a link is another user's, and stands where each may put one. The system's administrator follows no link of
-/// another anywhere.
+/// Whether a link is another user's, and stands where each may put one.
 pub fn is_anothers_link<R: Files>(rt: &R, path: &str, link: &Metadata) -> bool {
     if link.uid() == user() {
         return false;
     }
     match rt.metadata(folder_of(path)) {
-        Ok(folder) => user() == 0 || folder.mode() & SHARED_FOLDER == SHARED_FOLDER,
+        Ok(folder) => folder.mode() & SHARED_FOLDER == SHARED_FOLDER,
         Err(_) => false,
     }
 }
@@ -170,17 +205,47 @@ fn is_of_mode(error: &Error) -> bool {
     error.kind() == ErrorKind::PermissionDenied && error.raw_os_error() != Some(NOT_PERMITTED)
 }
 
+/// Opens a file for reading and writing. So a pipe that is put in its place is open at once, and waits for nobody.
+pub fn open_both<R: Files>(rt: &R, path: &str) -> Result<R::File, Error> {
+    OpenOptions::new().read(true).write(true).open(rt, path)
+}
+
 /// Whether what stands at a path may be extended, replaced or removed: nothing, or a regular file of this user that
-/// the system lets him change. That is asked by opening it for writing, once it is known to be no device or pipe.
-pub fn may_be_changed<R: Files>(rt: &R, path: &str) -> Result<(), FileError> {
+/// the system lets him change. That is asked by opening it for writing, once it is known to be no device or pipe. The
+/// open file, if there is one.
+pub fn may_be_changed<R: Files<File = File>>(
+    rt: &R,
+    path: &str,
+) -> Result<Option<File>, FileError> {
     match look(rt, path)? {
-        None => return Ok(()),
+        None => return Ok(None),
         Some(found) => refuse_kind(&found)?,
     }
-    match OpenOptions::new().write(true).open(rt, path) {
-        Err(error) if !is_of_mode(&error) => Err(FileError::from(error)),
-        _ => Ok(()),
+    match open_both(rt, path) {
+        Ok(file) => Ok(Some(file)),
+        Err(error) if is_of_mode(&error) => Ok(None),
+        Err(error) => Err(FileError::from(error)),
     }
+}
+
+/// Whether a pipe stands at a path by its own name, so that whoever opens it to read waits for a writer.
+pub fn is_named_pipe<R: Files>(rt: &R, path: &str) -> bool {
+    match rt.symlink_metadata(path) {
+        Ok(found) => found.file_type().is_fifo(),
+        Err(_) => false,
+    }
+}
+
+/// Opens what is only read. No writer of a pipe is waited for: it is open at once, and holds nothing.
+pub fn open_to_read<R: Files>(rt: &R, path: &str) -> Result<R::File, Error> {
+    if !is_named_pipe(rt, path) {
+        return File::open(rt, path);
+    }
+    // as long as it is open for writing too, nobody waits for a writer
+    let both = open_both(rt, path)?;
+    let file = File::open(rt, path);
+    drop(both);
+    file
 }
 
 /// Whether two paths lead to one file that is there.

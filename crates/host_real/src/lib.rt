@@ -3,10 +3,13 @@
 #![tactic(auto)]
 
 mod children;
+mod deliveries;
 mod disk;
 mod editors;
 mod files;
+mod folders;
 mod kinds;
+mod leases;
 mod locks;
 mod paths;
 mod reading;

@@ -1,20 +1,26 @@
 // Locks made of files. The lock on F is the file F.lock, which holds its owner's token.
-use crate::files::{remove_file, write_new};
+use crate::files::{remove_file, sync_name, write_new};
 use crate::kinds::{
-    Stamp, is_absence, is_empty_place, is_out_of_reach, look, may_be_changed, stamp_at,
+    Stamp, is_absence, is_empty_place, is_out_of_reach, look, may_be_changed, open_both, stamp_at,
+    user,
 };
+use crate::leases::is_leased;
 use crate::paths::{Place, beside_name, is_token, lock_path, staged_path, token_text};
 use crate::reasons::FileError;
 use crate::spool::{Errand, Helper, Operation};
-use crate::waiting::Patience;
+use crate::waiting::{LockWait, Patience};
 use std::alloc::Global;
-use std::fs::{File, Files};
-use std::io::{Error, ErrorKind, Read};
+use std::fs::{File, Files, OpenFile};
+use std::io::{Eprint, Error, ErrorKind, Read};
+use std::os::unix::fs::MetadataExt;
 use std::process::Processes;
 use std::time::{Clock, Duration};
 
 /// The shortest pause, in microseconds, between two looks at a lock.
 const PAUSE: u64 = 20_000;
+
+/// How many seconds another is waited for at least who has broken a lock.
+const LEAST_WAIT: u64 = 1;
 
 /// More bytes than a lock of ours has.
 const LOCK_ROOM: u64 = 17;
@@ -27,12 +33,14 @@ pub enum Hold {
     Other,
 }
 
-/// A lock that this host has put, and what stood at the file's place then.
+/// A lock that this host has put, and what stood at the file's place then. The system's administrator keeps that open, so
+/// that no lease of its user comes between the lock and the end.
 #[derive(Drop)]
 struct Mark {
     file: String,
     digits: String,
     found: Option<Stamp>,
+    _open: Option<File>,
 }
 
 /// The locks that this host has put.
@@ -61,15 +69,15 @@ impl Marks {
         self.marks.retain(|mark| mark.file.as_str() != file);
     }
 
-    fn put(&mut self, file: String, digits: String, found: Option<Stamp>) -> Result<(), FileError> {
-        self.forget(file.as_str());
-        Ok(
-            self.marks.push(Mark {
-                file,
-                digits,
-                found,
-            })?,
-        )
+    fn put(&mut self, mark: Mark) -> Result<(), FileError> {
+        self.forget(mark.file.as_str());
+        Ok(self.marks.push(mark)?)
+    }
+
+    /// The digits of the token by which this host has locked a file.
+    pub fn digits_of(&self, file: &str) -> Option<&str> {
+        let mark = self.marks.iter().find(|mark| mark.file.as_str() == file)?;
+        Some(mark.digits.as_str())
     }
 }
 
@@ -82,10 +90,18 @@ pub fn is_held<R: Files>(rt: &R, lock: &str) -> Result<bool, FileError> {
     }
 }
 
-// What a lock that can be opened holds, as far as it may be a token.
+// What a lock that can be opened holds, as far as it may be a token. The administrator opens his own alone, and so that no
+// pipe in its place holds him up.
 fn read_lock<R: Files>(rt: &R, alloc: Global, lock: &str) -> Result<Vec<u8>, Error> {
     let mut bytes = Vec::new(alloc);
-    let mut file = File::open(rt, lock)?;
+    let mut file = if user() == 0 {
+        open_both(rt, lock)?
+    } else {
+        File::open(rt, lock)?
+    };
+    if !file.metadata()?.is_file() {
+        return Ok(bytes);
+    }
     (&mut file).take(LOCK_ROOM).read_to_end(&mut bytes)?;
     Ok(bytes)
 }
@@ -93,7 +109,7 @@ fn read_lock<R: Files>(rt: &R, alloc: Global, lock: &str) -> Result<Vec<u8>, Err
 // The token of a lock, as its digits: none if no lock stands, if it may not be read, or if it holds no token.
 fn owner_of<R: Files>(rt: &R, alloc: Global, lock: &str) -> Result<Option<String>, FileError> {
     match look(rt, lock)? {
-        Some(found) if found.is_file() => {}
+        Some(found) if found.is_file() && (user() != 0 || found.uid() == 0) => {}
         _ => return Ok(None),
     }
     let bytes = match read_lock(rt, alloc, lock) {
@@ -126,14 +142,13 @@ pub fn hold_of<R: Files>(
 }
 
 // Puts a lock if none stands. False if one stands.
-fn put_lock<R: Files + Processes>(
+fn put_lock<R: Files<File = File> + Processes>(
     rt: &R,
     helper: &Helper<'_>,
     path: &str,
     lock: &str,
     digits: &str,
 ) -> Result<bool, FileError> {
-    may_be_changed(rt, path)?;
     if is_held(rt, lock)? {
         return Ok(false);
     }
@@ -144,8 +159,9 @@ fn put_lock<R: Files + Processes>(
     }
 }
 
-/// Puts a lock on a file that may be changed. False if one stands: another's is waited for.
-pub fn lock<R: Files + Clock + Processes>(
+/// Puts a lock on a file that may be changed. False if one stands, or if the file's user has a lease on it, against whom
+/// the system's administrator delivers: another's is waited for.
+pub fn lock<R: Files<File = File> + Clock + Processes + Eprint>(
     rt: &R,
     helper: &Helper<'_>,
     marks: &mut Marks,
@@ -157,17 +173,49 @@ pub fn lock<R: Files + Clock + Processes>(
     let lock = lock_path(alloc, path)?;
     let lock = lock.as_str();
     let digits = token_text(alloc, token)?;
-    let patience = Patience::new(rt, wait, PAUSE);
+    let mut waiting = LockWait::new(rt, lock, wait, PAUSE);
     for _ in 0..u64::MAX {
-        if put_lock(rt, helper, path, lock, digits.as_str())? {
-            marks.put(String::from_str(alloc, path)?, digits, stamp_at(rt, path)?)?;
-            return Ok(true);
+        if !is_leased(rt, alloc, path) {
+            let open = may_be_changed(rt, path)?;
+            if put_lock(rt, helper, path, lock, digits.as_str())? {
+                marks.put(Mark {
+                    file: String::from_str(alloc, path)?,
+                    digits,
+                    found: stamp_at(rt, path)?,
+                    _open: if user() == 0 { open } else { None },
+                })?;
+                return Ok(true);
+            }
         }
-        if hold_of(rt, alloc, marks, lock)? == Hold::Own || !patience.again(rt) {
+        if hold_of(rt, alloc, marks, lock)? == Hold::Own || !waiting.again(rt, alloc) {
             return Ok(false);
         }
     }
     Ok(false)
+}
+
+/// Puts a lock again that was taken away after the decision. Another's is waited for, and then heeded no more: who broke
+/// the lock would hold up all others.
+pub fn lock_again<R: Files + Clock>(
+    rt: &R,
+    alloc: Global,
+    path: &str,
+    digits: &str,
+    wait: Duration,
+) -> Result<(), FileError> {
+    let lock = lock_path(alloc, path)?;
+    let lock = lock.as_str();
+    let beside = beside_name(alloc, path, digits)?;
+    let patience = Patience::new(rt, wait.max(Duration::from_secs(LEAST_WAIT)), PAUSE);
+    for _ in 0..u64::MAX {
+        if is_of_token(rt, alloc, lock, digits)?
+            || write_new(rt, lock, beside.as_str(), digits.as_bytes())?
+            || !patience.again(rt)
+        {
+            return Ok(());
+        }
+    }
+    Ok(())
 }
 
 // Whether a lock stands that holds this token.
@@ -228,11 +276,14 @@ pub fn unlock<R: Files + Processes>(
     if is_of_token(rt, helper.alloc, lock, digits)? {
         take_away(rt, helper, path, lock, digits)?;
         marks.forget(path);
-    } else if let Err(refusal) = left {
+        return Ok(());
+    }
+    if let Err(refusal) = left {
         let errand = Errand::of(Operation::Unlock, path, digits);
         let _ = helper.have_done(rt, &errand, FileError::from(refusal));
     }
-    Ok(())
+    // a run that was stopped may have taken it away, and its absence not have reached the device
+    sync_name(rt, lock)
 }
 
 // Whether a file is as it was when its lock was put: this host has seen it then. Of a lock that another run has put
@@ -245,6 +296,35 @@ fn is_untouched(now: Option<Stamp>, mark: Option<&Mark>, lock: &Stamp) -> bool {
     }
 }
 
+// Whether a file that was changed since its lock was put was not written: it got another name or another mode, say.
+fn is_unwritten(now: Option<Stamp>, mark: Option<&Mark>, lock: &Stamp) -> bool {
+    match (mark, now) {
+        (Some(mark), Some(now)) => match mark.found {
+            Some(found) => now.has_bytes_of(&found),
+            None => false,
+        },
+        (None, Some(now)) => now.was_written_before(lock),
+        (_, None) => false,
+    }
+}
+
+// The stamp of a lock that holds a token. A lock that was broken is an error.
+fn standing_lock<R: Files>(
+    rt: &R,
+    alloc: Global,
+    file: &str,
+    digits: &str,
+) -> Result<Stamp, FileError> {
+    let lock = lock_path(alloc, file)?;
+    let Some(standing) = stamp_at(rt, lock.as_str())? else {
+        return Err(FileError::LockGone);
+    };
+    match owner_of(rt, alloc, lock.as_str())? {
+        Some(owner) if owner.as_str() == digits => Ok(standing),
+        _ => Err(FileError::LockGone),
+    }
+}
+
 /// Whether a file is as it was locked with this token. A lock that was broken is an error.
 pub fn is_as_locked<R: Files>(
     rt: &R,
@@ -253,19 +333,12 @@ pub fn is_as_locked<R: Files>(
     file: &str,
     digits: &str,
 ) -> Result<bool, FileError> {
-    let lock = lock_path(alloc, file)?;
-    let Some(standing) = stamp_at(rt, lock.as_str())? else {
-        return Err(FileError::LockGone);
-    };
-    match owner_of(rt, alloc, lock.as_str())? {
-        Some(owner) if owner.as_str() == digits => {}
-        _ => return Err(FileError::LockGone),
-    }
+    let standing = standing_lock(rt, alloc, file, digits)?;
     let now = stamp_at(rt, file)?;
     Ok(is_untouched(now, marks.find(file, digits), &standing))
 }
 
-/// Refuses to replace or remove a file whose lock with this token was broken, or that was changed under it.
+/// Refuses to replace or remove a file whose lock with this token was broken, or that was written under it.
 pub fn refuse_broken<R: Files>(
     rt: &R,
     alloc: Global,
@@ -273,7 +346,10 @@ pub fn refuse_broken<R: Files>(
     file: &str,
     digits: &str,
 ) -> Result<(), FileError> {
-    if is_as_locked(rt, alloc, marks, file, digits)? {
+    let standing = standing_lock(rt, alloc, file, digits)?;
+    let now = stamp_at(rt, file)?;
+    let mark = marks.find(file, digits);
+    if is_untouched(now, mark, &standing) || is_unwritten(now, mark, &standing) {
         Ok(())
     } else {
         Err(FileError::Changed)

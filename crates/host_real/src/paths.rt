@@ -1,15 +1,13 @@
 // Names, and the files that they stand for.
-use crate::kinds::{is_anothers_link, is_systems_link};
+use crate::folders::{Folders, LOOP, MOST_LINKS, refuse_shared};
+use crate::kinds::{is_anothers_link, is_systems_link, user};
 use crate::reasons::FileError;
 use std::alloc::{AllocError, Global};
-use std::fs::Files;
+use std::fs::{File, Files};
 use std::io::Error;
 
-/// The most symbolic links that are followed from one name, as the system has it.
-const MOST_LINKS: usize = 40;
-
-/// The system's number of an error: too many levels of symbolic links.
-const LOOP: i32 = 40;
+/// The actor of deliveries, who changes mailboxes alone.
+const DELIVERY: &str = "/var/mail/.mail_deliver";
 
 /// What the names of a run's own three files add to the name of its actor.
 const OWN_ENDS: [&str; 3] = [".commit", ".commit.new", ".right"];
@@ -178,34 +176,73 @@ fn followed<R: Files>(rt: &R, alloc: Global, path: &str) -> Result<String, FileE
     Err(FileError::System(Error::from_raw_os_error(LOOP)))
 }
 
-// An own file, which is not followed through a link.
-fn own_place<R: Files>(rt: &R, alloc: Global, path: &str) -> Result<Place, FileError> {
-    match rt.symlink_metadata(path) {
-        Ok(found) if found.is_symlink() => Err(FileError::NotRegular),
-        _ => Ok(Place::Own(String::from_str(alloc, path)?)),
+// The path of the file that a name stands for. The system's administrator goes there folder by folder.
+fn path_to<R: Files<File = File>>(
+    rt: &R,
+    alloc: Global,
+    folders: &mut Folders,
+    path: &str,
+) -> Result<String, FileError> {
+    if user() == 0 {
+        folders.path_to(rt, alloc, path)
+    } else {
+        followed(rt, alloc, path)
+    }
+}
+
+// Refuses what a delivery has no business with: a name outside the folder of its record.
+fn refuse_outside(actor: Option<&String>, path: &str) -> Result<(), FileError> {
+    match actor {
+        Some(actor) if actor.as_str() == DELIVERY && folder_of(path) != folder_of(DELIVERY) => {
+            Err(FileError::Outside)
+        }
+        _ => Ok(()),
     }
 }
 
 /// What a name stands for.
-pub fn place_of<R: Files>(
+pub fn place_of<R: Files<File = File>>(
     rt: &R,
     alloc: Global,
+    folders: &mut Folders,
     actor: Option<&String>,
     name: &[u8],
 ) -> Result<Place, FileError> {
     let path = path_of(name)?;
     if is_own(actor, path) {
-        return own_place(rt, alloc, path);
+        refuse_shared(rt, alloc, path)?;
+        return Ok(Place::Own(String::from_str(alloc, path)?));
     }
+    refuse_outside(actor, path)?;
     match staged_parts(path) {
-        None => Ok(Place::File(followed(rt, alloc, path)?)),
-        Some((file, digits)) => {
-            let file = followed(rt, alloc, file)?;
-            Ok(Place::Staged {
-                path: staged_path(alloc, file.as_str(), digits)?,
-                file,
-                digits: String::from_str(alloc, digits)?,
-            })
-        }
+        None => Ok(Place::File(path_to(rt, alloc, folders, path)?)),
+        Some((file, digits)) => staged_place(alloc, path_to(rt, alloc, folders, file)?, digits),
+    }
+}
+
+// The place of what is staged for a file.
+fn staged_place(alloc: Global, file: String, digits: &str) -> Result<Place, FileError> {
+    Ok(Place::Staged {
+        path: staged_path(alloc, file.as_str(), digits)?,
+        file,
+        digits: String::from_str(alloc, digits)?,
+    })
+}
+
+/// The place of a name where another has put a link in the place of the file: that link stands there.
+pub fn place_before_link<R: Files<File = File>>(
+    rt: &R,
+    alloc: Global,
+    folders: &mut Folders,
+    name: &[u8],
+) -> Result<Place, FileError> {
+    let path = path_of(name)?;
+    match staged_parts(path) {
+        None => Ok(Place::File(folders.path_before_link(rt, alloc, path)?)),
+        Some((file, digits)) => staged_place(
+            alloc,
+            folders.path_before_link(rt, alloc, file)?,
+            digits,
+        ),
     }
 }

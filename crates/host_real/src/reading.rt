@@ -2,16 +2,19 @@
 ghost use Rattle.std.specs.Prelude.{IfOk};
 ghost use Rattle.host_port.specs.Calls.{FitsLoad};
 
-use crate::kinds::{Stamp, is_absence, is_out_of_reach, stands_at};
+use crate::folders::{led_to, refuse_opened};
+use crate::kinds::{
+    Stamp, is_absence, is_named_pipe, is_out_of_reach, open_both, open_to_read, stands_at,
+};
 use crate::locks::{Hold, Marks, hold_of, is_held};
 use crate::paths::{Place, lock_path};
 use crate::reasons::FileError;
-use crate::waiting::Patience;
+use crate::waiting::LockWait;
 use host_port::LoadAnswer;
 use mail_text::Text;
 use std::alloc::Global;
 use std::fs::{File, Files, OpenFile};
-use std::io::{Error, ErrorKind, Read};
+use std::io::{Eprint, Error, ErrorKind, Read};
 use std::time::{Clock, Duration};
 
 /// The most bytes of a file that a load takes.
@@ -39,7 +42,7 @@ fn read_open<F: Read>(alloc: Global, file: &mut F, length: u64) -> Result<Vec<u8
 
 // Whether an open file that was read is as it was before, and still the one that the path leads to.
 fn is_as_before<R: Files>(rt: &R, path: &str, file: &R::File, before: &Stamp) -> bool {
-    match (file.metadata(), rt.metadata(path)) {
+    match (file.metadata(), led_to(rt, path)) {
         (Ok(after), Ok(named)) => {
             Stamp::of(&after) == *before && Stamp::of(&named).is_file_of(before)
         }
@@ -47,7 +50,8 @@ fn is_as_before<R: Files>(rt: &R, path: &str, file: &R::File, before: &Stamp) ->
     }
 }
 
-// Reads a file that can be opened. What is no regular file is read to its end, once.
+// Reads a file that can be opened. What is no regular file is read to its end, once. A pipe that nobody writes to is none
+// that can be read.
 fn read_found<R: Files>(
     rt: &R,
     alloc: Global,
@@ -62,6 +66,9 @@ fn read_found<R: Files>(
     let length = bytes.len() as u64;
     if length > LOAD_LIMIT {
         return Err(FileError::TooLarge { length });
+    }
+    if length == 0 && !found.is_file() && is_named_pipe(rt, path) {
+        return Err(FileError::NotRegular);
     }
     let is_steady = !found.is_file() || is_as_before(rt, path, &file, &before);
     Ok(Reading {
@@ -80,24 +87,63 @@ fn says_absent<R: Files>(rt: &R, place: &Place, error: &Error) -> bool {
     }
 }
 
-// Refuses what another has put in the place of a staged file, as a link, since it would be read in the run's name.
+// Refuses what another has put in the place of a staged file, as a link, or of one of the run's own, since it would be
+// read in the run's name.
 fn refuse_other<R: Files>(rt: &R, place: &Place, file: &R::File) -> Result<(), FileError> {
-    if let Place::Staged { path, .. } = place
-        && !stands_at(rt, path.as_str(), &file.metadata()?)?
-    {
+    match place {
+        Place::Staged { path, .. } if !stands_at(rt, path.as_str(), &file.metadata()?)? => {
+            Err(FileError::NotRegular)
+        }
+        Place::Own(path) => refuse_opened(rt, path.as_str(), &file.metadata()?),
+        _ => Ok(()),
+    }
+}
+
+// Whether a file is the run's to change: it has locked it, or it makes it alone.
+fn is_to_change(place: &Place, hold: Hold) -> bool {
+    hold == Hold::Own || place.is_made_here()
+}
+
+// Opens a file to be read. Where it is the run's to change, nobody is waited for who puts a pipe in its place.
+fn open_for<R: Files>(rt: &R, place: &Place, hold: Hold) -> Result<R::File, Error> {
+    let path = place.path();
+    if !is_to_change(place, hold) {
+        return open_to_read(rt, path);
+    }
+    match open_both(rt, path) {
+        Err(error) if is_only_read(&error) => File::open(rt, path),
+        answer => answer,
+    }
+}
+
+// Whether an error of opening a file says that it may not be written, here or by this user.
+fn is_only_read(error: &Error) -> bool {
+    let kind = error.kind();
+    kind == ErrorKind::PermissionDenied || kind == ErrorKind::ReadOnlyFilesystem
+}
+
+// Refuses what another has put in the place of a file that is the run's to change.
+fn refuse_pipe<F: OpenFile>(place: &Place, file: &F, hold: Hold) -> Result<(), FileError> {
+    if is_to_change(place, hold) && !file.metadata()?.is_file() {
         return Err(FileError::NotRegular);
     }
     Ok(())
 }
 
 // Reads a file once.
-fn read_once<R: Files>(rt: &R, alloc: Global, place: &Place) -> Result<Reading, FileError>
+fn read_once<R: Files>(
+    rt: &R,
+    alloc: Global,
+    place: &Place,
+    hold: Hold,
+) -> Result<Reading, FileError>
     ensures { IfOk result (λ r. FitsLoad r.bytes) }
 {
     let path = place.path();
-    match File::open(rt, path) {
+    match open_for(rt, place, hold) {
         Ok(file) => {
             refuse_other(rt, place, &file)?;
+            refuse_pipe(place, &file, hold)?;
             read_found(rt, alloc, path, file)
         }
         Err(error) if says_absent(rt, place, &error) => Ok(Reading {
@@ -120,7 +166,7 @@ fn read_held<R: Files>(
     ensures { IfOk result (λ a. FitsLoad a.bytes) }
 {
     let is_free = hold == Hold::Free;
-    let first = read_once(rt, alloc, place)?;
+    let first = read_once(rt, alloc, place, hold)?;
     if first.is_steady && !(is_free && is_held(rt, lock)?) {
         return Ok(LoadAnswer {
             bytes: first.bytes,
@@ -128,7 +174,7 @@ fn read_held<R: Files>(
         });
     }
     drop(first);
-    let second = read_once(rt, alloc, place)?;
+    let second = read_once(rt, alloc, place, hold)?;
     let held = !is_free || !second.is_steady || is_held(rt, lock)?;
     Ok(LoadAnswer {
         bytes: second.bytes,
@@ -138,7 +184,7 @@ fn read_held<R: Files>(
 
 // Refuses what is no regular file, if a file is locked by this run or is one of its own.
 fn refuse_irregular<R: Files>(rt: &R, place: &Place, hold: Hold) -> Result<(), FileError> {
-    if hold != Hold::Own && !place.is_made_here() {
+    if !is_to_change(place, hold) {
         return Ok(());
     }
     match rt.metadata(place.path()) {
@@ -148,7 +194,7 @@ fn refuse_irregular<R: Files>(rt: &R, place: &Place, hold: Hold) -> Result<(), F
 }
 
 /// What a load answers. A file that another has locked is waited for.
-pub fn load<R: Files + Clock>(
+pub fn load<R: Files + Clock + Eprint>(
     rt: &R,
     alloc: Global,
     marks: &Marks,
@@ -159,15 +205,15 @@ pub fn load<R: Files + Clock>(
 {
     let lock = lock_path(alloc, place.path())?;
     let lock = lock.as_str();
-    let patience = Patience::new(rt, wait, PAUSE);
+    let mut waiting = LockWait::new(rt, lock, wait, PAUSE);
     for _ in 0..u64::MAX {
         let hold = hold_of(rt, alloc, marks, lock)?;
-        if hold == Hold::Other && patience.again(rt) {
+        if hold == Hold::Other && waiting.again(rt, alloc) {
             continue;
         }
         refuse_irregular(rt, place, hold)?;
         let answer = read_held(rt, alloc, place, lock, hold)?;
-        if hold != Hold::Free || !answer.held || !patience.again(rt) {
+        if hold != Hold::Free || !answer.held || !waiting.again(rt, alloc) {
             return Ok(answer);
         }
     }

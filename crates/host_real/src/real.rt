@@ -57,6 +57,12 @@ impl<R: Files<File = File> + Input + Print + Eprint + Processes + Clock + Drop> 
         })
     }
 
+    /// The host of a delivery: its commits only add to mailboxes. Run by the system's administrator it goes on whatever
+    /// others do to theirs under its locks.
+    pub fn deliver(&mut self) {
+        self.disk.deliver();
+    }
+
     /// How many calls on the disk have failed.
     pub fn disk_faults(&self) -> u64
         ensures { result ≡ self.now.disks }

@@ -1,5 +1,5 @@
 // Why a call failed, in words for the standard error.
-use crate::kinds::is_denied;
+use crate::kinds::{is_absence, is_denied};
 use mail_text::Memory;
 use std::alloc::{AllocError, AllocFailed, Global};
 use std::io::{Eprint, Error, ErrorKind};
@@ -13,14 +13,21 @@ pub enum FileError {
     Input(Error),
     /// The helper that has the right of the folder could not be run.
     Helper(Error),
+    /// What the system answered, where there is no helper that would have the right.
+    NoHelper(Error),
     /// The helper found another's file there, or not the lock.
     HelperRefused,
     /// The helper ended without having done it, and has told why.
     HelperFailed,
     /// What stands there is a folder, a device, a pipe, a socket, or a link where no link may be.
     NotRegular,
-    /// It is a link that another user has put where each may put one, and isn't followed.
+    /// On the way to it is a link that another user has put, or could have put, and that isn't followed.
     AnothersLink,
+    /// Others may put something in the place of one of the run's own three files, where nothing stands yet or something
+    /// does.
+    SharedFolder { is_empty: bool },
+    /// It isn't in the folder of mailboxes, and a delivery changes nothing else.
+    Outside,
     /// The file is another user's.
     NotOwn,
     /// The lock, by which a file may be replaced or removed, isn't there any more.
@@ -41,6 +48,18 @@ impl FileError {
     pub fn is_denial(&self) -> bool {
         match self {
             FileError::System(error) => is_denied(error),
+            _ => false,
+        }
+    }
+
+    /// Whether another has changed what stands there, or taken away the lock or the file.
+    pub fn is_of_others(&self) -> bool {
+        match self {
+            FileError::System(error) => is_absence(error),
+            FileError::Changed
+            | FileError::LockGone
+            | FileError::NotRegular
+            | FileError::AnothersLink => true,
             _ => false,
         }
     }
@@ -94,10 +113,17 @@ fn reason_of(alloc: Global, error: &FileError) -> Result<String, AllocError> {
             let words = words_of(alloc, error)?;
             return format!(in alloc; "mail_spool can't be run: {words}");
         }
+        FileError::NoHelper(error) => {
+            let words = words_of(alloc, error)?;
+            return format!(in alloc; "{words}; the helper mail_spool isn't installed");
+        }
         FileError::HelperRefused =>
             "mail_spool refuses it: another's file is there, or the lock is gone",
         FileError::HelperFailed => "mail_spool has not done it",
-        FileError::NotRegular | FileError::AnothersLink => "not a regular file",
+        FileError::NotRegular => "not a regular file",
+        FileError::AnothersLink => "a link that may be another user's leads there",
+        FileError::SharedFolder { .. } => "another user may write a folder above it",
+        FileError::Outside => "not in the folder of mailboxes",
         FileError::NotOwn => "belongs to another user",
         FileError::LockGone => "the lock is gone",
         FileError::Changed => "changed while it was locked",
@@ -132,7 +158,29 @@ fn shown(alloc: Global, name: &[u8]) -> Result<String, AllocError> {
 /// Prints why a call failed: the name of what it was about, and the reason. If memory is short, or the standard error
 /// takes nothing, nothing is printed.
 pub fn tell<R: Eprint>(rt: &R, alloc: Global, name: &[u8], error: &FileError) {
-    if let (Ok(name), Ok(reason)) = (shown(alloc, name), reason_of(alloc, error)) {
-        let _ = rt.eprintln(format_args!("mailx: {name}: {reason}"));
+    if let Ok(reason) = reason_of(alloc, error) {
+        tell_words(rt, alloc, name, reason.as_str());
     }
+}
+
+/// Prints words about a name.
+pub fn tell_words<R: Eprint>(rt: &R, alloc: Global, name: &[u8], words: &str) {
+    if let Ok(name) = shown(alloc, name) {
+        let _ = rt.eprintln(format_args!("mailx: {name}: {words}"));
+    }
+}
+
+/// A time in words, by its largest unit.
+pub fn time_words(alloc: Global, seconds: u64) -> Result<String, AllocError> {
+    let (count, unit) = if seconds < 120 {
+        (seconds, "second")
+    } else if seconds < 7200 {
+        (seconds / 60, "minute")
+    } else if seconds < 172_800 {
+        (seconds / 3600, "hour")
+    } else {
+        (seconds / 86_400, "day")
+    };
+    let end = if count == 1 { "" } else { "s" };
+    format!(in alloc; "{count} {unit}{end}")
 }

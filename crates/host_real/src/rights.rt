@@ -2,6 +2,7 @@
 ghost use Rattle.std.specs.Prelude.{◌<◌, vec_len, IfSome};
 
 use crate::files::PRIVATE;
+use crate::folders::refuse_opened;
 use crate::kinds::is_closed_folder;
 use crate::paths::Place;
 use crate::reasons::FileError;
@@ -63,17 +64,21 @@ impl Rights {
         }
     }
 
-    /// Takes a right that isn't had yet. False if another has it, who is waited for.
+    /// Takes a right that isn't had yet. False if another has it, who is waited for. Where nothing can be made it has
+    /// no place, and no file.
     pub fn take<R: Files<File = File> + Clock>(
         &mut self,
         rt: &R,
         alloc: Global,
         name: &[u8],
-        place: &Place,
+        place: Option<&Place>,
         wait: Duration,
     ) -> Result<bool, FileError> {
         let name = Text::copy(alloc, name)?;
-        let file = open_right(rt, place.path())?;
+        let file = match place {
+            Some(place) => open_right(rt, place.path())?,
+            None => None,
+        };
         if let Some(file) = &file
             && !is_taken(rt, file, wait)?
         {
@@ -111,14 +116,18 @@ fn open_or_make<R: Files<File = File>>(rt: &R, path: &str) -> Result<File, Error
     }
 }
 
-// The open file of a right, which is made if it isn't there. None if it can't be made, since its folder isn't
-// there or may not be written: then nobody has the right, and no record of a change can be put beside it.
+// The open file of a right, if it is the user's. It is made if it isn't there. None if it can't be made, since its
+// folder isn't there or may not be written: then nobody has the right, and no record of a change can be put beside it.
 fn open_right<R: Files<File = File>>(rt: &R, path: &str) -> Result<Option<File>, FileError> {
-    match open_or_make(rt, path) {
-        Ok(file) => Ok(Some(file)),
-        Err(error) if is_closed_folder(&error) => open_standing(rt, path, error),
-        Err(error) => Err(FileError::from(error)),
+    let opened = match open_or_make(rt, path) {
+        Ok(file) => Some(file),
+        Err(error) if is_closed_folder(&error) => open_standing(rt, path, error)?,
+        Err(error) => return Err(FileError::from(error)),
+    };
+    if let Some(file) = &opened {
+        refuse_opened(rt, path, &file.metadata()?)?;
     }
+    Ok(opened)
 }
 
 // The open file of a right that may not be written, as on a disk that is only read; none if it isn't there.

@@ -1,6 +1,6 @@
 // The helper mail_spool, which has the right of the folder of mailboxes: it does there for its caller what the system
 // refused him.
-use crate::kinds::{is_empty_place, is_one_file};
+use crate::kinds::{denial, is_empty_place, is_one_file};
 use crate::paths::{folder_of, last_part};
 use crate::reasons::FileError;
 use crate::rights::Rights;
@@ -10,7 +10,7 @@ use std::io::{Error, ErrorKind, Write};
 use std::process::{Command, Processes, Stdio};
 
 /// The folder of mailboxes, which is fixed in the helper too.
-const FOLDER: &str = "/var/mail";
+pub const FOLDER: &str = "/var/mail";
 
 /// The name of the helper, which stands beside the program.
 const NAME: &str = "mail_spool";
@@ -127,6 +127,14 @@ fn helper_fault(error: Error) -> FileError {
     }
 }
 
+// A refusal where no helper is installed.
+fn without_helper(refusal: FileError) -> FileError {
+    match refusal {
+        FileError::System(error) => FileError::NoHelper(error),
+        other => other,
+    }
+}
+
 // What the helper's status comes to: it was done, a lock stands or nothing is staged, the words or the mailbox aren't
 // this user's, what stands there isn't his or not under his lock, or memory was short.
 fn answer_of(status: Option<i32>, refusal: FileError) -> Result<bool, FileError> {
@@ -157,7 +165,10 @@ impl<'a> Helper<'a> {
         if !refusal.is_denial() || !is_one_file(rt, folder_of(errand.file), FOLDER) {
             return Err(refusal);
         }
-        let (Some(path), Some(right)) = (helper_path(rt, self.alloc)?, self.rights.share()?) else {
+        let Some(path) = helper_path(rt, self.alloc)? else {
+            return Err(without_helper(refusal));
+        };
+        let Some(right) = self.rights.share()? else {
             return Err(refusal);
         };
         let mut command = command_of(self.alloc, path.as_str(), errand, right)?;
@@ -165,6 +176,25 @@ impl<'a> Helper<'a> {
             Ok(status) => answer_of(status, refusal),
             Err(error) => Err(helper_fault(error)),
         }
+    }
+
+    /// Has the helper take away what was staged. It does so under the lock alone, so one that was broken is put again
+    /// before. It is taken away as the run's other locks are.
+    pub fn have_discarded<R: Files + Processes>(
+        &self,
+        rt: &R,
+        file: &str,
+        digits: &str,
+        refusal: FileError,
+    ) -> Result<(), FileError> {
+        let discard = Errand::of(Operation::Discard, file, digits);
+        match self.have_done(rt, &discard, refusal) {
+            Err(FileError::HelperRefused) => {}
+            answer => return answer,
+        }
+        let lock = Errand::of(Operation::Lock, file, digits);
+        self.have_done(rt, &lock, FileError::from(denial()))?;
+        self.have_done(rt, &discard, FileError::from(denial()))
     }
 
     /// Has the helper do what is either done or fails.

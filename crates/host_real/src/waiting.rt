@@ -1,4 +1,9 @@
 // Waiting for others, by the monotonic clock.
+use crate::reasons::{tell_words, time_words};
+use std::alloc::{AllocError, Global};
+use std::fs::Files;
+use std::io::Eprint;
+use std::os::unix::fs::MetadataExt;
 use std::time::{Clock, Duration};
 
 /// The first pause between two tries, in microseconds.
@@ -32,6 +37,74 @@ impl Patience {
         let pause = pause_after(now.saturating_sub(begin), self.shortest);
         clock.sleep(pause.min(end.saturating_sub(now)));
         true
+    }
+
+    // How long the waiting lasts already, and how long it lasts still.
+    fn spans<C: Clock>(&self, clock: &C) -> Option<(Duration, Duration)> {
+        match (self.times, clock.monotonic()) {
+            (Some((begin, end)), Ok(now)) => Some((
+                now.saturating_sub(begin),
+                end.saturating_sub(now),
+            )),
+            _ => None,
+        }
+    }
+}
+
+/// Waiting for a lock that another has. After a second that is said, once.
+#[derive(Drop)]
+pub struct LockWait<'a> {
+    patience: Patience,
+    lock: &'a str,
+    is_told: bool,
+}
+
+impl<'a> LockWait<'a> {
+    pub fn new<C: Clock>(clock: &C, lock: &'a str, wait: Duration, shortest: u64) -> LockWait<'a> {
+        LockWait {
+            patience: Patience::new(clock, wait, shortest),
+            lock,
+            is_told: false,
+        }
+    }
+
+    /// Waits a while. False if the time is over, or can't be told.
+    pub fn again<R: Clock + Files + Eprint>(&mut self, rt: &R, alloc: Global) -> bool {
+        if !self.is_told
+            && let Some((waited, left)) = self.patience.spans(rt)
+            && waited.as_secs() >= 1
+            && !left.is_zero()
+        {
+            self.is_told = true;
+            tell_wait(rt, alloc, self.lock, left);
+        }
+        self.patience.again(rt)
+    }
+}
+
+// How many seconds ago a lock was made, or None if none stands there.
+fn age_of<R: Clock + Files>(rt: &R, lock: &str) -> Option<u64> {
+    match (rt.symlink_metadata(lock), rt.since_1970()) {
+        (Ok(found), Ok(now)) => Some(
+            now.as_secs()
+                .saturating_sub(u64::try_from(found.mtime()).unwrap_or(0)),
+        ),
+        _ => None,
+    }
+}
+
+fn wait_words(alloc: Global, age: u64, left: Duration) -> Result<String, AllocError> {
+    let age = time_words(alloc, age)?;
+    let left = time_words(alloc, left.as_secs().saturating_add(1))?;
+    format!(in alloc; "another program has it for {age}; waiting {left} more")
+}
+
+// Says what is waited for: the lock, how old it is, and how long it is still waited for.
+fn tell_wait<R: Clock + Files + Eprint>(rt: &R, alloc: Global, lock: &str, left: Duration) {
+    if let Some(age) = age_of(rt, lock)
+        && let Ok(words) = wait_words(alloc, age, left)
+    {
+        tell_words(rt, alloc, lock.as_bytes(), words.as_str());
     }
 }
 

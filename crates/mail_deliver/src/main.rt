@@ -1,14 +1,28 @@
 //! The program `mail_deliver`: it makes the real host and the environment, calls `deliver`, and ends with the status'
-//! number.
+//! number. Of words that are refused it prints the usage on the standard error.
 #![tactic(auto)]
 
 mod outside;
 
 use host_real::RealHost;
-use mail_delivery::{Environment, deliver};
+use mail_delivery::{DeliverStatus, Environment, deliver};
 use mail_text::{Items, Memory};
+use std::io::Eprint;
 use std::process::ExitCode;
 use std::random::RandomSource;
+
+/// What the words are to be.
+const USAGE: &str = "usage: mail_deliver [-r SENDER] USER ..";
+
+// Says the usage, where the words were refused. Nothing is said if the standard error takes nothing.
+fn say_usage<R: Eprint>(rt: &R, status: &DeliverStatus) {
+    match status {
+        DeliverStatus::Usage => {
+            let _ = rt.eprintln(format_args!("{USAGE}"));
+        }
+        _ => {}
+    }
+}
 
 fn start(rt: HostRuntime) -> Result<u8, Memory> {
     let alloc = rt.alloc();
@@ -24,7 +38,10 @@ fn start(rt: HostRuntime) -> Result<u8, Memory> {
     };
     let wait = outside::waiting_time(&rt, alloc)?;
     let mut host = RealHost::new(rt, alloc, b"", wait)?;
-    Ok(deliver(alloc, &words, &env, &mut host).number())
+    host.deliver();
+    let status = deliver(alloc, &words, &env, &mut host);
+    say_usage(&rt, &status);
+    Ok(status.number())
 }
 
 fn main(rt: HostRuntime) -> ExitCode {

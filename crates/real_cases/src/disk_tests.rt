@@ -5,7 +5,8 @@ use host_port::{Host, LoadAnswer, LoadError};
 use host_real::RealHost;
 use mail_text::{Memory, Text};
 use std::alloc::Global;
-use std::fs::Files;
+use std::fs::{Files, Permissions};
+use std::os::unix::fs::PermissionsExt;
 use std::rt::HostRuntime;
 use std::test::Fail;
 use std::time::{Clock, Duration};
@@ -45,6 +46,9 @@ enum Name {
     GrownLock,
     GrownStaged,
     Twin,
+    SharedRight,
+    SharedRecord,
+    SharedBegun,
 }
 
 /// A call on the disk.
@@ -97,6 +101,9 @@ fn path(name: Name) -> &'static [u8]
         Name::GrownLock => b"grown.lock",
         Name::GrownStaged => b"grown.mx00000000000000ab",
         Name::Twin => b"twin",
+        Name::SharedRight => b"shared/me.right",
+        Name::SharedRecord => b"shared/me.commit",
+        Name::SharedBegun => b"shared/me.commit.new",
     }
 }
 
@@ -249,6 +256,50 @@ fn a_right_ends_with_its_holder(rt: HostRuntime) -> Result<(), Fail> {
     ];
     let got = answers(alloc, &mut host, &calls)?;
     assert_eq!(rt; got.bytes(), b".ym.".as_slice());
+    Ok(())
+}
+
+// The own three files in a folder that others may write: none is there, and none is made.
+const SHARED: [Call; 6] = [
+    Call::Seize(Name::SharedRight),
+    Call::Load(Name::SharedRecord),
+    Call::Stage(Name::SharedBegun),
+    Call::Publish(Name::SharedBegun, Name::SharedRecord),
+    Call::Erase(Name::SharedRecord),
+    Call::Load(Name::SharedRight),
+];
+
+// One that stands there doesn't count, and isn't taken away.
+const PLANTED: [Call; 2] = [
+    Call::Load(Name::SharedRecord),
+    Call::Erase(Name::SharedRecord),
+];
+
+#[test]
+fn own_files_are_not_where_others_may_write(rt: HostRuntime) -> Result<(), Fail> {
+    let alloc = rt.alloc();
+    let mut host = RealHost::new(rt, alloc, SCRATCH, Duration::ZERO)?;
+    assert!(rt; rt.create_dir("shared").is_ok());
+    assert!(rt;
+        rt.set_permissions("shared", Permissions::from_mode(0o777))
+            .is_ok()
+    );
+    let shared = answers(alloc, &mut host, &SHARED)?;
+    assert_eq!(rt; shared.bytes(), b"ya!n.a".as_slice());
+    {
+        let mut another = RealHost::new(rt, alloc, SCRATCH, Duration::ZERO)?;
+        let put = answers(alloc, &mut another, &[Call::Stage(Name::SharedRecord)])?;
+        assert_eq!(rt; put.bytes(), b".".as_slice());
+    }
+    let planted = answers(alloc, &mut host, &PLANTED)?;
+    assert_eq!(rt; planted.bytes(), b"!!".as_slice());
+    assert!(rt;
+        rt.set_permissions("shared", Permissions::from_mode(0o700))
+            .is_ok()
+    );
+    let closed = answers(alloc, &mut host, &[Call::Load(Name::SharedRecord)])?;
+    assert_eq!(rt; closed.bytes(), b"m".as_slice());
+    assert_eq!(rt; host.disk_faults(), 3);
     Ok(())
 }
 
