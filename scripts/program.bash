@@ -1,11 +1,11 @@
-# What the launcher, the gate and the tests share: where the program stands, and of what it was built. To be sourced. The program is mailx, unless who
-# sources it has set `built` to another's name.
+# What the launchers, the gate and the tests share: where the program stands, and of what it was built. To be sourced. The program is mailx, unless who
+# sources it has set `built` to another's name; it is the one that was built without proofs, if `tried` is set.
 # shellcheck shell=bash
 set -o pipefail
 
 top=$(cd "$(dirname "${BASH_SOURCE[0]}")/.." && pwd) || exit 70
 built=${built:-mailx}
-program=$top/crates/$built/out/$built
+program=$top/crates/$built/out/${tried:+tried/}$built
 stamp=$program.sources
 
 # fail LINE..: says the lines and ends with the status of a program that can't be had
@@ -14,9 +14,13 @@ fail() {
   exit 70
 }
 
-# how_many: a proof for each processor, as far as memory lasts: each takes up to 2.8 GB
+# how_many: RT_JOBS, or else a proof for each processor, as far as memory lasts: each takes up to 2.8 GB
 how_many() {
   local processors memory
+  if [ "${RT_JOBS:-0}" -gt 0 ] 2>/dev/null; then
+    echo "$RT_JOBS"
+    return
+  fi
   processors=$(nproc)
   memory=$(awk '/^MemAvailable:/ { print int($2 / 2800000) }' /proc/meminfo)
   echo $((memory < 1 ? 1 : memory < processors ? memory : processors))
@@ -36,14 +40,14 @@ crates_below() {
     END { visit(want) }' "$top/crates.txt"
 }
 
-# sum_of_sources: one sum over the name and the content of each file that the program is built from
+# sum_of_sources: one sum over the name and the content of each file that the program is built from; without proofs that is the code alone
 sum_of_sources() {
   local crate parts=(crates.txt)
   cd "$top" || return
   for crate in $(crates_below "$built"); do
     parts+=("crates/$crate/src")
-    [ ! -d "crates/$crate/specs" ] || parts+=("crates/$crate/specs")
-    [ ! -d "crates/$crate/proofs" ] || parts+=("crates/$crate/proofs")
+    [ -n "${tried:-}" ] || [ ! -d "crates/$crate/specs" ] || parts+=("crates/$crate/specs")
+    [ -n "${tried:-}" ] || [ ! -d "crates/$crate/proofs" ] || parts+=("crates/$crate/proofs")
   done
   find "${parts[@]}" -type f -print0 | LC_ALL=C sort -z | xargs -0 sha256sum | sha256sum
 }
