@@ -33,14 +33,14 @@ use Rattle.commit_driver.specs.declared.place.Plan.{Plan}
 use Rattle.commit_driver.specs.declared.place.Place.{Place}
 use Rattle.commit_driver.specs.Steps.{call_at, recovered_at, Fits, round, weight, tested_at, went_at, faulted_at, long_at, short_at}
 use Rattle.commit_driver.specs.Judging.{TroubleFits}
-use Rattle.commit_driver.specs.Places.{files_of, entries_of, ways_in, ways_of, made_from, state_as, Holds, IsPlan, IsPlace, IsSafe, StandsFor}
-use Rattle.commit_driver.specs.Answers.{IsAnswer, reply_as, mending_at, judged_at, Finds, PassedSo, LooksAt, Looks, Takes, SawSo, Answered, at_step, IsCommitOf, Follows, is_long, is_settled, Caused, ReplyCaused, IsAfter}
+use Rattle.commit_driver.specs.Places.{files_of, entries_of, ways_in, ways_of, made_from, state_as, Holds, IsPlan, IsPlace, IsCounted, StandsFor}
+use Rattle.commit_driver.specs.Answers.{IsAnswer, reply_as, mending_at, judged_at, Finds, PassedSo, LooksAt, Looks, Takes, SawSo, Answered, at_step, IsCommitOf, IsLastLoad, Follows, is_long, is_settled, Caused, ReplyCaused, IsAfter}
 use Rattle.commit_driver.proofs.StateLemmas.{unlocking-all, drop-some}
 use Rattle.commit_driver.proofs.NextLemmas.{files-long, edits-long}
 use Rattle.commit_driver.proofs.FitLemmas.{of-if, of-staging, fits-went, fits-fault, fits-long, fits-short, fits-placing, fits-tested, fits-undoing, fits-unlocking, fits-staging, lighter-went, lighter-fault, lighter-long, lighter-short, under-placing, under-tested, under-undoing, under-unlocking, under-staging, settled-went, settled-fault, settled-long, settled-short, caused-went, caused-fault, caused-long, caused-short, caused-placing, caused-tested, caused-undoing, caused-unlocking, Loads}
 use Rattle.commit_driver.proofs.AnswerLemmas.{went-same, fault-same, long-same, holds-went, holds-fault, holds-long, holds-short}
 use Rattle.commit_driver.proofs.FileLemmas.{record-files, record-staged}
-use Rattle.commit_driver.proofs.SawLemmas.{AreNamed, length-set, look-follows, test-follows, check-follows, take-follows}
+use Rattle.commit_driver.proofs.SawLemmas.{AreNamed, length-set, look-follows, test-follows, check-follows, more-follows, last-follows}
 
 false-true : true ≡ false → ⊥
 false-true h = let x : true ≡ false = h in absurd (cc)
@@ -86,7 +86,7 @@ pub all-names : (es : List Entry) → All (λ (e : Entry). IsFileName e.name) es
 all-names [] h = All-nil IsFileName
 all-names (e ∷ es) h = All-cons IsFileName e.name (map (λ e. e.name) es) (All-head (λ (e : Entry). IsFileName e.name) e es h) (all-names es (All-tail (λ (e : Entry). IsFileName e.name) e es h))
 
-module _ (plan : Plan) (old : Place) (q : IsPlace plan old) (safe : IsSafe plan) (changes : List Change) (base : List (List ℕ)) (named : AreNamed (names_of plan.value) changes) where
+module _ (plan : Plan) (old : Place) (q : IsPlace plan old) (counted : IsCounted plan) (changes : List Change) (base : List (List ℕ)) (named : AreNamed (names_of plan.value) changes) where
   abbrev n : ℕ
   n = files_of plan
 
@@ -99,7 +99,7 @@ module _ (plan : Plan) (old : Place) (q : IsPlace plan old) (safe : IsSafe plan)
   -- an answer that leads to a step by numbers alone
   by-step : (r : Reply) (s : Step) → Fits n m s → weight s < weight old.step → (is_settled s ≡ false → (is_settled old.step ≡ false) × (is_long r ≡ false))
       → ((before after : ℕ) → Caused before after old.step → ReplyCaused before after r → Caused before after s)
-      → ((j : Job) (t : State) → IsPlan j plan → (j.edits ≡ None) ⊎ IsCommitOf j changes base → StandsFor j old t → Follows j (at_step old s) (after_reply j t (reply_as r)))
+      → ((j : Job) (t : State) → IsPlan j plan → (IsLastLoad plan old.step r → (j.edits ≡ None) ⊎ IsCommitOf j changes base) → StandsFor j old t → Follows j (at_step old s) (after_reply j t (reply_as r)))
       → (now : Place) → now ≡ at_step old s → After r now
   by-step r s f l u c go now is = subst (After r) (sym is) (record { place = place-step plan old s q f; lighter = l; settled = u; caused = c; follows = go })
 
@@ -107,7 +107,7 @@ module _ (plan : Plan) (old : Place) (q : IsPlace plan old) (safe : IsSafe plan)
   after-went b a now is =
       let ws = ways_of old in
       let s = went_at ws plan.commits n m (recovered_at old.found) old.step b in
-      by-step (reply.Went b) s (fits-went ws plan.commits n m (recovered_at old.found) old.step b (λ e. safe.some e) q.fits a) (lighter-went ws plan.commits n m (recovered_at old.found) old.step b safe.few q.few q.fits a)
+      by-step (reply.Went b) s (fits-went ws plan.commits n m (recovered_at old.found) old.step b (λ e. counted.some e) q.fits a) (lighter-went ws plan.commits n m (recovered_at old.found) old.step b counted.few q.few q.fits a)
       (λ e. (settled-went ws plan.commits n m (recovered_at old.found) old.step b a e, refl))
       (λ before after c x. caused-went before after ws plan.commits n m (recovered_at old.found) old.step b a c)
       (λ j t p for st. (
@@ -144,7 +144,7 @@ module _ (plan : Plan) (old : Place) (q : IsPlace plan old) (safe : IsSafe plan)
   after-long : (k : ℕ) → IsAnswer (call_at old.step) (reply.Long k) → (now : Place) → Answered plan (reply.Long k) changes base old now → After (reply.Long k) now
   after-long k a now is =
       let l = loads-long old.step k a in
-      by-step (reply.Long k) (long_at n old.step k) (fits-long n m old.step k q.fits) (lighter-long n m old.step k safe.few q.fits l)
+      by-step (reply.Long k) (long_at n old.step k) (fits-long n m old.step k q.fits) (lighter-long n m old.step k counted.few q.fits l)
       (λ e. absurd (false-true (sym (settled-long n old.step k) ∙ e)))
       (λ before after c x. caused-long before after n old.step k l x c)
       (λ j t p for st. (
@@ -183,7 +183,7 @@ module _ (plan : Plan) (old : Place) (q : IsPlace plan old) (safe : IsSafe plan)
   after-short : IsAnswer (call_at old.step) reply.Short → (now : Place) → Answered plan reply.Short changes base old now → After reply.Short now
   after-short a now is =
       let l = loads-short old.step a in
-      by-step reply.Short (short_at n old.step) (fits-short n m old.step) (lighter-short n m old.step safe.few q.fits l)
+      by-step reply.Short (short_at n old.step) (fits-short n m old.step) (lighter-short n m old.step counted.few q.fits l)
       (λ e. (settled-short n old.step l e, refl))
       (λ before after c x. caused-short before after n old.step l c)
       (λ j t p for st. (wanted j t, inl refl, short-follows j old.step t st.hidden st.made p q.fits l st.is))
@@ -194,7 +194,7 @@ module _ (plan : Plan) (old : Place) (q : IsPlace plan old) (safe : IsSafe plan)
     at-looking : (j : Job) (t : State) → StandsFor j old t → Looking ≡ t
     at-looking j t st = sym (ap (state_as j st.hidden st.made old.found old.seen old.files) looking) ∙ st.is
 
-    look-goes : (file : Option (List ℕ)) (now : Place) → Looks plan file old now → (j : Job) (t : State) → IsPlan j plan → (j.edits ≡ None) ⊎ IsCommitOf j changes base → StandsFor j old t → Follows j now (saw j t file)
+    look-goes : (file : Option (List ℕ)) (now : Place) → Looks plan file old now → (j : Job) (t : State) → IsPlan j plan → (IsLastLoad plan old.step (reply.Saw file) → (j.edits ≡ None) ⊎ IsCommitOf j changes base) → StandsFor j old t → Follows j now (saw j t file)
     look-goes file now l j t p for st = subst (λ (z : State). Follows j now (saw j z file)) (at-looking j t st) (look-follows j plan old p q st.hidden st.wanted st.made file now l)
 
     was-open : is_settled old.step ≡ false
@@ -248,7 +248,7 @@ module _ (plan : Plan) (old : Place) (q : IsPlace plan old) (safe : IsSafe plan)
 
     after-looking : (file : Option (List ℕ)) (now : Place) → Looks plan file old now → After (reply.Saw file) now
     after-looking None now is =
-        look-step None _ now (of-if (Fits n m) plan.commits _ _ (λ e. safe.some e) (λ e. tt)) (of-if (λ (s : Step). weight s < 19 * round) plan.commits _ _ (λ e. omega arith) (λ e. omega arith))
+        look-step None _ now (of-if (Fits n m) plan.commits _ _ (λ e. counted.some e) (λ e. tt)) (of-if (λ (s : Step). weight s < 19 * round) plan.commits _ _ (λ e. omega arith) (λ e. omega arith))
         (λ before after. of-if (Caused before after) plan.commits _ _ (λ e. tt) (λ e. tt)) is is
     after-looking (Some bytes) now looks = after-found bytes looks.0 now looks.1 looks.2 looks
 
@@ -257,13 +257,19 @@ module _ (plan : Plan) (old : Place) (q : IsPlace plan old) (safe : IsSafe plan)
     at-some : at < n
     at-some = subst (Fits n m) at-loading q.fits
 
-    load-goes : (file : Option (List ℕ)) (now : Place) → Takes plan at file changes base old now → (j : Job) (t : State) → IsPlan j plan → (j.edits ≡ None) ⊎ IsCommitOf j changes base → StandsFor j old t → Follows j now (saw j t file)
-    load-goes file now takes j t p (inl none) st =
+    load-goes : (file : Option (List ℕ)) (now : Place) → Takes plan at file changes base old now → (j : Job) (t : State) → IsPlan j plan → (IsLastLoad plan old.step (reply.Saw file) → (j.edits ≡ None) ⊎ IsCommitOf j changes base) → StandsFor j old t → Follows j now (saw j t file)
+    load-goes file now (inl more) j t p for st =
         let some : is_some j.edits ≡ true = subst (Holds j st.made old.files old.ways old.go) at-loading st.holds in
-        absurd (false-true (sym some ∙ ap is_some none))
-    load-goes file now takes j t p (inr of) st =
         let is = sym (ap (state_as j st.hidden st.made old.found old.seen old.files) at-loading) ∙ st.is in
-        subst (λ (z : State). Follows j now (saw j z file)) is (take-follows j plan old p q st.hidden st.wanted st.made changes base of named at file now at-some takes)
+        subst (λ (z : State). Follows j now (saw j z file)) is (more-follows j plan old p q st.hidden st.wanted st.made some at file now at-some more)
+    load-goes file now (inr over) j t p for st =
+        let some : is_some j.edits ≡ true = subst (Holds j st.made old.files old.ways old.go) at-loading st.holds in
+        let is = sym (ap (state_as j st.hidden st.made old.found old.seen old.files) at-loading) ∙ st.is in
+        let last : IsLastLoad plan old.step (reply.Saw file) = subst (λ (z : Step). IsLastLoad plan z (reply.Saw file)) (sym at-loading) over.0 in
+        elim (for last) [
+          | inl none ↦ absurd (false-true (sym some ∙ ap is_some none))
+          | inr of ↦ subst (λ (z : State). Follows j now (saw j z file)) is (last-follows j plan old p q st.hidden st.wanted st.made changes base of named at file now at-some over)
+        ]
 
     load-open : is_settled old.step ≡ false
     load-open = ap is_settled at-loading
@@ -275,10 +281,10 @@ module _ (plan : Plan) (old : Place) (q : IsPlace plan old) (safe : IsSafe plan)
     judged-fits (Err trouble.Memory) t = fits-unlocking n m 0 n (then.Answer end.NoMemory) (omega arith) tt
 
     judged-light : (result : Result Unit Trouble) → weight (judged_at n result) < 9 * round + (file_limit - at)
-    judged-light (Ok u) = under-staging (9 * round + (file_limit - at)) 0 n (omega (arith, at-some, safe.few))
-    judged-light (Err (trouble.Changed k x)) = under-unlocking (9 * round + (file_limit - at)) 0 n (then.Answer (end.Changed k x)) safe.few (omega arith)
-    judged-light (Err (trouble.TooLarge k x)) = under-unlocking (9 * round + (file_limit - at)) 0 n (then.Answer (end.TooLarge k x)) safe.few (omega arith)
-    judged-light (Err trouble.Memory) = under-unlocking (9 * round + (file_limit - at)) 0 n (then.Answer end.NoMemory) safe.few (omega arith)
+    judged-light (Ok u) = under-staging (9 * round + (file_limit - at)) 0 n (omega (arith, at-some, counted.few))
+    judged-light (Err (trouble.Changed k x)) = under-unlocking (9 * round + (file_limit - at)) 0 n (then.Answer (end.Changed k x)) counted.few (omega arith)
+    judged-light (Err (trouble.TooLarge k x)) = under-unlocking (9 * round + (file_limit - at)) 0 n (then.Answer (end.TooLarge k x)) counted.few (omega arith)
+    judged-light (Err trouble.Memory) = under-unlocking (9 * round + (file_limit - at)) 0 n (then.Answer end.NoMemory) counted.few (omega arith)
 
     judged-caused : (before after : ℕ) (result : Result Unit Trouble) → TroubleFits n result → Caused before after (judged_at n result)
     judged-caused before after (Ok u) t = of-staging (Caused before after) 0 n (λ l. tt) tt
@@ -300,7 +306,7 @@ module _ (plan : Plan) (old : Place) (q : IsPlace plan old) (safe : IsSafe plan)
 
     after-loading : (file : Option (List ℕ)) (now : Place) → Takes plan at file changes base old now → After (reply.Saw file) now
     after-loading file now (inl more) =
-        load-step file (step.Loading (at + 1)) (slice_set old.files at file) old.ways old.go now more.0 (length-set old.files at file ∙ q.files_are) (omega (arith, at-some, safe.few)) (λ before after. tt) more.1 (inl more)
+        load-step file (step.Loading (at + 1)) (slice_set old.files at file) old.ways old.go now more.0 (length-set old.files at file ∙ q.files_are) (omega (arith, at-some, counted.few)) (λ before after. tt) more.1 (inl more)
     after-loading file now (inr over) =
         let t = over.1 in
         let s = t.settles in

@@ -154,7 +154,7 @@ module _ (j : Job) (plan : Plan) (old now : Place) (call : Call) (r : Answer_of)
       let joined = stretches_join j Looking s (after_reply j s done.reply) front more a.goes step in
       let same : after_reply j s (reply_as r) ≡ after_reply j s done.reply = same-after j s (reply_as r) done.reply (subst (λ (o : Option machine.Call). SameReply o (reply_as r) done.reply) (sym is) done.same) in
       let goes = subst (λ (z : State). Goes j Looking (front ++ more) z) (sym same) joined in
-      let f = after.follows j s p for_it a.stands in
+      let f = after.follows j s p (λ last. for_it) a.stands in
       record {
         state = f.0;
         stands = f.2;

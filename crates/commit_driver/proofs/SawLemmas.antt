@@ -48,7 +48,7 @@ use Rattle.commit_driver.specs.declared.place.Place.{Place}
 use Rattle.commit_driver.specs.Steps.{unlocking_at, tested_at}
 use Rattle.commit_driver.specs.Judging.{JudgesSo}
 use Rattle.commit_driver.specs.Places.{nth, files_of, entries_of, tail_at, tails_for, file_way, file_ways, contents_in, ways_in, ways_of, nth_item, decided_entries, decided_record, outcome_way, passed_as, made_by, made_from, outcome_content, state_as, end_as, own_record, MayHide, WantedAs, IsMade, Holds, IsPlan, IsPlace, StandsFor}
-use Rattle.commit_driver.specs.Answers.{mending_at, judged_at, Finds, PassedSo, at_step, LooksAt, Looks, TakesAll, Takes, IsCommitOf, Follows}
+use Rattle.commit_driver.specs.Answers.{mending_at, judged_at, Finds, PassedSo, at_step, LooksAt, Looks, TakesAll, IsCommitOf, Follows}
 use Rattle.commit_driver.proofs.StateLemmas.{drop-some, length-map, none-left, loaded-by, made-more, placing-is, undoing-is, unlocking-all, staging-is}
 use Rattle.commit_driver.proofs.WayLemmas.{way-found, ways-by-name, decided-are}
 use Rattle.commit_driver.proofs.NextLemmas.{names-long, files-long, edits-long}
@@ -267,6 +267,28 @@ hide-so names (c ∷ cs) base files r m e = go (refusal_of (name_of c) (outcome_
     go None is later h = later h
     go (Some x) is later h = let same : x ≡ r = cc in subst (λ (z : ChangeRefusal). MayHide names (cause_of z)) same (hide-one names (name_of c) (outcome_on files c base) x m.0 is)
 
+-- the machine's state once a file was loaded
+load-next : (j : Job) (plan : Plan) (old : Place) (p : IsPlan j plan) (q : IsPlace plan old) (hidden : Ending) (made : List Made) (at : ℕ) (file : Option (List ℕ)) → at < files_of plan
+    → saw j (state_as j hidden made old.found old.seen old.files (step.Loading at)) file ≡ loading j (made_from (edits_of j) (take (at + 1) (slice_set old.files at file))) (drop (at + 1) (edits_of j))
+load-next j plan old p q hidden made at file l =
+    let es = edits_of j in
+    let w = drop-some es at (omega (arith, l, edits-long j plan p)) in
+    let e = w.0 in
+    let left = drop (at + 1) es in
+    let ms = made_from es (take at old.files) in
+    ap (λ (xs : List Edit). saw j (loading j ms xs) file) w.1
+    ∙ loaded-by j ms e left file (e.by file)
+    ∙ ap (λ (xs : List Made). loading j xs left) (sym (made-more es old.files at e left file w.1 (omega (arith, l, q.files_are))))
+
+-- a file was loaded that isn't the last
+pub more-follows : (j : Job) (plan : Plan) (old : Place) (p : IsPlan j plan) (q : IsPlace plan old) (hidden : Ending) (wanted : WantedAs (all_of j) hidden) (made : List Made) → is_some j.edits ≡ true → (at : ℕ) (file : Option (List ℕ)) (now : Place) → at < files_of plan
+    → (at + 1 < files_of plan) × (now ≡ record old { step = step.Loading (at + 1); files = slice_set old.files at file }) → Follows j now (saw j (state_as j hidden made old.found old.seen old.files (step.Loading at)) file)
+more-follows j plan old p q hidden wanted made some at file now l more =
+    let es = edits_of j in
+    let fs = slice_set old.files at file in
+    subst (λ (x : Place). Follows j x (saw j (state_as j hidden made old.found old.seen old.files (step.Loading at)) file)) (sym more.1)
+    (loading j (made_from es (take (at + 1) fs)) (drop (at + 1) es), inl (sym (load-next j plan old p q hidden made at file l)), record { hidden = hidden; wanted = wanted; made = made; holds = some; is = refl })
+
 module _ (j : Job) (plan : Plan) (old : Place) (p : IsPlan j plan) (q : IsPlace plan old) (hidden : Ending) (wanted : WantedAs (all_of j) hidden) (made : List Made) (cs : List Change) (base : List (List ℕ)) (of : IsCommitOf j cs base) (named : AreNamed (names_of plan.value) cs) where
   some-edits : is_some j.edits ≡ true
   some-edits = ap is_some of.edits_are
@@ -413,27 +435,13 @@ module _ (j : Job) (plan : Plan) (old : Place) (p : IsPlan j plan) (q : IsPlace 
         let at : now ≡ Now (judged_at (files_of plan) t.result) s.made s.ways s.go = t.is ∙ ap (λ (x : Place). (let y : Place = record x { step = judged_at (files_of plan) t.result } in y)) s.is in
         subst (λ (x : Place). Follows j x (Judged (j.refusal F))) (sym at) (judged-follows t.result s.made s.ways s.go s.ways_are s.go_is some (s.judged F distinct seen))
 
-  -- a file was loaded
-  pub take-follows : (at : ℕ) (file : Option (List ℕ)) (now : Place) → at < files_of plan → Takes plan at file cs base old now → Follows j now (saw j (state_as j hidden made old.found old.seen old.files (step.Loading at)) file)
-  take-follows at file now l t =
+  -- the last file was loaded
+  pub last-follows : (at : ℕ) (file : Option (List ℕ)) (now : Place) → at < files_of plan → (files_of plan ≤ at + 1) × TakesAll plan (slice_set old.files at file) cs base old now → Follows j now (saw j (state_as j hidden made old.found old.seen old.files (step.Loading at)) file)
+  last-follows at file now l over =
       let es = edits_of j in
       let fs = slice_set old.files at file in
-      let w = drop-some es at (omega (arith, l, edits-long j plan p)) in
-      let e = w.0 in
-      let left = drop (at + 1) es in
-      let ms = made_from es (take at old.files) in
-      let next : saw j (loading j ms (drop at es)) file ≡ loading j (made_from es (take (at + 1) fs)) left =
-      ap (λ (xs : List Edit). saw j (loading j ms xs) file) w.1
-      ∙ loaded-by j ms e left file (e.by file)
-      ∙ ap (λ (xs : List Made). loading j xs left) (sym (made-more es old.files at e left file w.1 (omega (arith, l, q.files_are))))
-      in
       let long : length fs ≡ files_of plan = length-set old.files at file ∙ q.files_are in
-      elim t [
-        | inl more ↦ subst (λ (x : Place). Follows j x (saw j (loading j ms (drop at es)) file)) (sym more.1)
-            (loading j (made_from es (take (at + 1) fs)) left, inl (sym next), record { hidden = hidden; wanted = wanted; made = made; holds = some-edits; is = refl })
-        | inr over ↦
-            let all : take (at + 1) fs ≡ fs = take_all (at + 1) fs (omega (arith, over.0, long)) in
-            let none : left ≡ [] = none-left es (at + 1) (omega (arith, over.0, edits-long j plan p)) in
-            let end : loading j (made_from es (take (at + 1) fs)) left ≡ loading j (made_from es fs) [] = ap (λ (xs : List (Option (List ℕ))). loading j (made_from es xs) left) all ∙ ap (loading j (made_from es fs)) none in
-            subst (λ (s : State). Follows j now s) (sym (next ∙ end)) (takes-all fs long now (omega (arith, l)) over.1)
-      ]
+      let all : take (at + 1) fs ≡ fs = take_all (at + 1) fs (omega (arith, over.0, long)) in
+      let none : drop (at + 1) es ≡ [] = none-left es (at + 1) (omega (arith, over.0, edits-long j plan p)) in
+      let end : loading j (made_from es (take (at + 1) fs)) (drop (at + 1) es) ≡ loading j (made_from es fs) [] = ap (λ (xs : List (Option (List ℕ))). loading j (made_from es xs) (drop (at + 1) es)) all ∙ ap (loading j (made_from es fs)) none in
+      subst (λ (s : State). Follows j now s) (sym (load-next j plan old p q hidden made at file l ∙ end)) (takes-all fs long now (omega (arith, l)) over.1)

@@ -208,10 +208,15 @@ ReplyCaused before now reply.Fault = Rose before now
 ReplyCaused before now (reply.Long n) = load_limit < n
 ReplyCaused before now r = Unit {0}
 
+-- the answer is what the load of the last file saw, which the changes are made of
+abbrev pub IsLastLoad : Plan → Step → Reply → Type 0
+IsLastLoad plan (step.Loading at) (reply.Saw file) = files_of plan ≤ at + 1
+IsLastLoad plan s r = ⊥
+
 -- The place after an answer: its state is the machine's, it has less to do, and its end is settled and caused as the answer has it.
 pub record IsAfter (plan : Plan) (r : Reply) (changes : List Change) (base : List (List ℕ)) (old now : Place) : Type 0 where
   pub place : IsPlace plan now
   pub lighter : weight now.step < weight old.step
   pub settled : is_settled now.step ≡ false → (is_settled old.step ≡ false) × (is_long r ≡ false)
   pub caused : (before after : ℕ) → Caused before after old.step → ReplyCaused before after r → Caused before after now.step
-  pub follows : (j : Job) (s : State) → IsPlan j plan → (j.edits ≡ None) ⊎ IsCommitOf j changes base → StandsFor j old s → Follows j now (after_reply j s (reply_as r))
+  pub follows : (j : Job) (s : State) → IsPlan j plan → (IsLastLoad plan old.step r → (j.edits ≡ None) ⊎ IsCommitOf j changes base) → StandsFor j old s → Follows j now (after_reply j s (reply_as r))

@@ -318,6 +318,12 @@ pub record IsSafe (plan : Plan) : Type 0 where
   pub some : plan.commits ≡ true → 1 ≤ files_of plan
   pub valid : 1 ≤ files_of plan → is_valid plan.value ≡ true
 
+-- the files of the plan are as many as a record may have, and a commit has some
+pub record IsCounted (plan : Plan) : Type 0 where
+  pub few : files_of plan ≤ file_limit
+  pub some : plan.commits ≡ true → 1 ≤ files_of plan
+  pub valid : 1 ≤ files_of plan → is_valid plan.value ≡ true
+
 -- a call is the machine's next
 abbrev pub NextOf : Plan → Place → Option Call → Type 0
 NextOf plan place result = (j : Job) (s : State) → IsPlan j plan → IsPlace plan place → StandsFor j place s → option_map (call_in plan place) result ≡ next j s

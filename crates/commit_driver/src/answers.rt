@@ -9,7 +9,7 @@ ghost use Rattle.folder_change.specs.Changes.{name_of};
 ghost use Rattle.commit_driver.specs.declared.step.Step.TheVariants as Step;
 ghost use Rattle.commit_record.specs.Format.{is_valid};
 ghost use Rattle.commit_driver.specs.Steps.{call_at, unlocking_at, undoing_at, place_at, known_at, placing_at, tested_at, locking_at, staging_at, count_at, recovered_at, closed_at, passed_end, passed_then, passed_at, faulted_at, long_at, short_at, went_at, Fits};
-ghost use Rattle.commit_driver.specs.Places.{files_of, entries_of, ways_of, IsPlace, IsSafe};
+ghost use Rattle.commit_driver.specs.Places.{files_of, entries_of, ways_of, IsPlace, IsCounted};
 ghost use Rattle.commit_driver.specs.Answers.{Finds, PassedSo, Looks, WritesGo, Settles, Takes, SawSo, Answered, IsAnswer, IsAfter, mending_at, judged_at};
 
 use crate::decision::{decided, own_way, tails_for};
@@ -454,7 +454,7 @@ fn take(
     changes: &[Change],
     base: Option<&Folder>,
 )
-    requires safe { IsSafe plan.now }
+    requires counted { IsCounted plan.now }
     requires place { IsPlace plan.now place.old }
     requires step { place.old.step ≡ Step.Loading at }
     requires named { All (λ c. has (names_of plan.now.value) (name_of c) ≡ true) changes.now }
@@ -480,7 +480,7 @@ fn saw(
     changes: &[Change],
     base: Option<&Folder>,
 )
-    requires safe { IsSafe plan.now }
+    requires counted { IsCounted plan.now }
     requires place { IsPlace plan.now place.old }
     requires named { All (λ c. has (names_of plan.now.value) (name_of c) ≡ true) changes.now }
     requires based { All (λ c. IsTrue (is_rewrite c) → IsSome base) changes.now }
@@ -512,7 +512,7 @@ fn answer(
     changes: &[Change],
     base: Option<&Folder>,
 )
-    requires safe { IsSafe plan.now }
+    requires counted { IsCounted plan.now }
     requires place { IsPlace plan.now place.old }
     requires named { All (λ c. has (names_of plan.now.value) (name_of c) ≡ true) changes.now }
     requires based { All (λ c. IsTrue (is_rewrite c) → IsSome base) changes.now }
@@ -540,7 +540,7 @@ pub fn after(
     changes: &[Change],
     base: Option<&Folder>,
 )
-    requires safe { IsSafe plan.now }
+    requires counted { IsCounted plan.now }
     requires place { IsPlace plan.now place.old }
     requires answers { IsAnswer (call_at place.old.step) reply }
     requires named { All (λ c. has (names_of plan.now.value) (name_of c) ≡ true) changes.now }

@@ -20,59 +20,12 @@ use Rattle.commit_machine.proofs.records.Names.{lawful-staged, staged-new}
 use Rattle.commit_machine.proofs.records.Same.{same_false}
 use Rattle.commit_record.specs.Format.{written}
 use Rattle.commit_machine.proofs.standing.Known.{Knows}
+use Rattle.commit_machine.proofs.told.Refusals.{Decides, decides}
 use Rattle.commit_machine.proofs.standing.KnownNext.{names-prepare}
 use Rattle.core_steps.specs.Settling.{standing_in, settled_by}
 use Rattle.core_steps.proofs.Settled.{says, both, After, others_name, own_name}
 use Rattle.core_steps.proofs.Ones.{Orderly, How, is_name, is_staged, is_put, says_how}
 use Rattle.core_fact.proofs.Heart.{kept, many_settle, applied_alone}
-
--- the state has a decision in flight
-abbrev Decides : State → Type 0
-Decides s = (made : List Made) × (s ≡ Committing made)
-
-module _ (j : Job) (d : Disk) where
-  not_from : (from to : List ℕ) (failed : Bool) → from ≢ new_name j.actor → is_decision j (event.Publish from to true failed) d ≡ false
-  not_from from to failed ne = rw (same_false from (new_name j.actor) ne) refl
-
-  not_prepare : (from to : List ℕ) (failed : Bool) → record_in (d.files (new_name j.actor)) ≡ Some (prepare_of j) → is_decision j (event.Publish from to true failed) d ≡ false
-  not_prepare from to failed e = rw e (go (bytes_eq from (new_name j.actor) && bytes_eq to (record_name j.actor)))
-    where
-      go : (b : Bool) → (b && false) ≡ false
-      go true = refl
-      go false = refl
-
-  -- only that state makes a decision
-  decides : (s : State) (e : Event) → IsNext (next j s) e → Knows j s d → is_decision j e d ≡ true → Decides s
-  decides (Committing made) e is k h = (made, refl)
-  decides Seizing _ seizes k h = absurd (cc)
-  decides (Timing time) _ asks k h = absurd (cc)
-  decides Looking _ loads k h = absurd (cc)
-  decides (Undoing r m ns ls th) _ erases k h = absurd (cc)
-  decides (Placing r x xs ls th) _ (publishes {done = true} {failed = failed}) k h = let no = not_from (staged_name r.token x.name) x.name failed (staged-new r.token x.name j.actor) in absurd (cc)
-  decides (Placing r x xs ls th) _ (publishes {done = false} {failed = failed}) k h = absurd (cc)
-  decides (Testing r x xs ls) _ loads k h = absurd (cc)
-  decides (Removing r x xs ls th) _ erases k h = absurd (cc)
-  decides (Extending r x xs ls th) _ extends k h = absurd (cc)
-  decides (Extending r x xs ls th) _ extend_fails k h = absurd (cc)
-  decides (Discarding r x xs ls th) _ erases k h = absurd (cc)
-  decides (Unlocking r m ns th) _ unlocks k h = absurd (cc)
-  decides (Erasing r th) _ erases k h = absurd (cc)
-  decides (Clearing found) _ erases k h = absurd (cc)
-  decides Preparing _ stages k h = absurd (cc)
-  decides Preparing _ stage_fails k h = absurd (cc)
-  decides Publishing _ (publishes {done = true} {failed = failed}) k h =
-      let stands : record_in (d.files (new_name j.actor)) ≡ Some (prepare_of j) = ap record_in (k.0.new (written (prepare_of j)) refl) ∙ record_of-written (written (prepare_of j)) (prepare_of j) k.1 in
-      let no = not_prepare (new_name j.actor) (record_name j.actor) failed stands in absurd (cc)
-  decides Publishing _ (publishes {done = false} {failed = failed}) k h = absurd (cc)
-  decides (Locking ls x left) _ locks k h = absurd (cc)
-  decides (Loading made x left) _ loads k h = absurd (cc)
-  decides (Staging ns made x left) _ stages k h = absurd (cc)
-  decides (Staging ns made x left) _ stage_fails k h = absurd (cc)
-  decides (Deciding made) _ stages k h = absurd (cc)
-  decides (Deciding made) _ stage_fails k h = absurd (cc)
-  decides Checking _ loads k h = absurd (cc)
-  decides (Releasing a) _ releases k h = absurd (cc)
-  decides (Ended a) e is k h = absurd is
 
 applied_not : (es : List Edit) (files : Files) (n : List ℕ) → (Mem n (all_names es) → ⊥) → applied es files n ≡ files n
 applied_not [] files n not = refl

@@ -15,6 +15,7 @@ use Rattle.commit_machine.specs.Settled.{Files, Mem}
 use Rattle.commit_machine.specs.Jobs.{Puts, file_after, outcome_of}
 use Rattle.commit_machine.specs.Due.{applied}
 use Rattle.commit_machine.specs.Edits.{without, is_added, only_adds, outcome_for}
+use Rattle.commit_machine.proofs.records.Edits.{Mem_without, Grown, grown_same, grown_then, grown_by, outcome_is}
 use Rattle.commit_machine.proofs.records.Same.{same_false, same_or_not, has_Mem, Mem_has}
 use Rattle.core_steps.specs.declared.change.CoreChange.{CoreChange}
 use Rattle.core_steps.specs.Changes.{change_of, base_of, plain, file_of, after_one, apply_each, files_named, edit_of, edits_of_all}
@@ -28,18 +29,6 @@ unfolding apply_each
 each-alone [] files others n e = e
 each-alone (c ∷ cs) files others n e = each-alone cs (after_one files c) (after_one others c) n (one-alone files others c n e)
 
-Mem_without : (ns : List (List ℕ)) (m n : List ℕ) → Mem n ns → n ≢ m → Mem n (without m ns)
-Mem_without [] m n h ne = absurd h
-Mem_without (k ∷ ks) m n h ne = elim (same_or_not k m) [ inl p ↦ gone p.0 p.1 h (λ a. Mem_without ks m n a ne) | inr p ↦ stays p.1 h (λ a. Mem_without ks m n a ne) ]
-  where
-    gone : k ≡ m → bytes_eq k m ≡ true → Mem n (k ∷ ks) → (Mem n ks → Mem n (without m ks)) → Mem n (without m (k ∷ ks))
-    gone e y (inl is) more = absurd (ne (is ∙ e))
-    gone e y (inr a) more = rw y (more a)
-
-    stays : bytes_eq k m ≡ false → Mem n (k ∷ ks) → (Mem n ks → Mem n (without m ks)) → Mem n (without m (k ∷ ks))
-    stays nay (inl is) more = rw nay (inl is)
-    stays nay (inr a) more = rw nay (inr (more a))
-
 -- a file that no change names stays
 pub untouched : (changes : List CoreChange) (files : Files) (n : List ℕ) → (Mem n (files_named changes) → ⊥) → apply_each changes files n ≡ files n
 unfolding apply_each
@@ -47,29 +36,6 @@ untouched [] files n not = refl
 untouched (c ∷ cs) files n not =
     let ne : n ≢ file_of c = λ e. not (inl e) in
     untouched cs (after_one files c) n (λ h. not (inr (Mem_without (files_named cs) (file_of c) n h ne))) ∙ after-other files (change_of c) (base_of c) n ne
-
--- the bytes of a file that stands, and what comes behind them
-abbrev Grown : Option (List ℕ) → Option (List ℕ) → Type 0
-Grown None now = Unit {0}
-Grown (Some old) now = (more : List ℕ) × (now ≡ Some (old ++ more))
-
-grown_same : (file : Option (List ℕ)) → Grown file file
-grown_same None = tt
-grown_same (Some old) = ([], ap Some (sym (append-nil old)))
-
-grown_then : (a b c : Option (List ℕ)) → Grown a b → Grown b c → Grown a c
-grown_then None b c x y = tt
-grown_then (Some old) b c x y = let w = subst (λ (z : Option (List ℕ)). Grown z c) x.1 y in (x.0 ++ w.0, w.1 ∙ ap Some (append_assoc old x.0 w.0))
-
--- one change that adds
-grown_by : (file : Option (List ℕ)) (change : Change) (base : List (List ℕ)) → is_added change ≡ true → (now : Option (List ℕ)) × (outcome_of_file file change base ≡ Ok now) × Grown file now
-unfolding outcome_of_file
-grown_by file (Rewrite name list keep) base h = absurd (cc)
-grown_by file (Front name texts) base h = absurd (cc)
-grown_by None (Add name texts) base h = (_, refl, tt)
-grown_by (Some old) (Add name texts) base h = (_, refl, (_, ap Some (append_assoc old (missing_feeds old) _)))
-grown_by None (AddRaw name bytes) base h = (_, refl, tt)
-grown_by (Some old) (AddRaw name bytes) base h = (_, refl, (bytes, refl))
 
 -- a file to which all changes add begins as it began
 added : (changes : List CoreChange) (files : Files) (n : List ℕ) → only_adds (plain changes) n ≡ true → Grown (files n) (apply_each changes files n)
@@ -87,23 +53,6 @@ added (c ∷ cs) files n h =
         let w = grown_by (files (file_of c)) (change_of c) (base_of c) adds in
         let here : after_one files c (file_of c) ≡ w.0 = after-here files (change_of c) (base_of c) w.0 w.1 in
         subst (λ (z : List ℕ). Grown (files z) (after_one files c z)) (sym p.0) (subst (Grown (files (file_of c))) (sym here) w.2)
-
--- what is staged makes of the file what it is to be
-outcome_is : (adds : Bool) (seen file : Option (List ℕ)) → (adds ≡ true → Grown seen file) → file_after seen (outcome_for adds seen file) ≡ file
-outcome_is adds seen None h = refl
-outcome_is false seen (Some bytes) h = refl
-outcome_is true None (Some bytes) h = refl
-outcome_is true (Some old) (Some bytes) h =
-    let w = h refl in
-    let is : bytes ≡ old ++ w.0 = (let s : Some bytes ≡ Some (old ++ w.0) = w.1 in cc) in
-    go (nat_le (length old) load_limit) w.0 is
-  where
-    front : (more : List ℕ) → bytes ≡ old ++ more → take (length old) old ++ drop (length old) bytes ≡ bytes
-    front more is = ap (λ (xs : List ℕ). xs ++ drop (length old) bytes) (take_all (length old) old (omega arith)) ∙ ap (λ (xs : List ℕ). old ++ drop (length old) xs) is ∙ ap (λ (xs : List ℕ). old ++ xs) (drop_at old more (length old) refl) ∙ sym is
-
-    go : (b : Bool) (more : List ℕ) → bytes ≡ old ++ more → file_after (Some old) (if b then Puts (Extend (length old)) (drop (length old) bytes) else Puts Replace bytes) ≡ Some bytes
-    go true more is = ap Some (front more is)
-    go false more is = refl
 
 module _ (changes : List CoreChange) (files : Files) where
   applied_in : (ns : List (List ℕ)) (n : List ℕ) → Mem n ns → applied (map (edit_of changes) ns) files n ≡ outcome_of (edit_of changes n) (files n)

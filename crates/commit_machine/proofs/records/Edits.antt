@@ -18,7 +18,7 @@ use Rattle.commit_machine.specs.Due.{applied}
 use Rattle.commit_machine.specs.Edits.{without, first_names, is_added, only_adds, outcome_for, edit_for, EditsAreChanges}
 use Rattle.commit_machine.proofs.records.Same.{same_false, same_or_not, has_Mem, Mem_has}
 
-Mem_without : (ns : List (List ℕ)) (m n : List ℕ) → Mem n ns → n ≢ m → Mem n (without m ns)
+pub Mem_without : (ns : List (List ℕ)) (m n : List ℕ) → Mem n ns → n ≢ m → Mem n (without m ns)
 Mem_without [] m n h ne = absurd h
 Mem_without (k ∷ ks) m n h ne = elim (same_or_not k m) [ inl p ↦ gone p.0 p.1 h (λ a. Mem_without ks m n a ne) | inr p ↦ stays p.1 h (λ a. Mem_without ks m n a ne) ]
   where
@@ -39,20 +39,20 @@ untouched (c ∷ cs) base files n not =
     untouched cs base (after files c base) n (λ h. not (inr (Mem_without (first_names cs) (name_of c) n h ne))) ∙ after-other files c base n ne
 
 -- the bytes of a file that stands, and what comes behind them
-abbrev Grown : Option (List ℕ) → Option (List ℕ) → Type 0
+abbrev pub Grown : Option (List ℕ) → Option (List ℕ) → Type 0
 Grown None now = Unit {0}
 Grown (Some old) now = (more : List ℕ) × (now ≡ Some (old ++ more))
 
-grown_same : (file : Option (List ℕ)) → Grown file file
+pub grown_same : (file : Option (List ℕ)) → Grown file file
 grown_same None = tt
 grown_same (Some old) = ([], ap Some (sym (append-nil old)))
 
-grown_then : (a b c : Option (List ℕ)) → Grown a b → Grown b c → Grown a c
+pub grown_then : (a b c : Option (List ℕ)) → Grown a b → Grown b c → Grown a c
 grown_then None b c x y = tt
 grown_then (Some old) b c x y = let w = subst (λ (z : Option (List ℕ)). Grown z c) x.1 y in (x.0 ++ w.0, w.1 ∙ ap Some (append_assoc old x.0 w.0))
 
 -- one change that adds
-grown_by : (file : Option (List ℕ)) (change : Change) (base : List (List ℕ)) → is_added change ≡ true → (now : Option (List ℕ)) × (outcome_of_file file change base ≡ Ok now) × Grown file now
+pub grown_by : (file : Option (List ℕ)) (change : Change) (base : List (List ℕ)) → is_added change ≡ true → (now : Option (List ℕ)) × (outcome_of_file file change base ≡ Ok now) × Grown file now
 unfolding outcome_of_file
 grown_by file (Rewrite name list keep) base h = absurd (cc)
 grown_by file (Front name texts) base h = absurd (cc)
@@ -78,7 +78,7 @@ added (c ∷ cs) base files n h =
         subst (λ (z : List ℕ). Grown (files z) (after files c base z)) (sym p.0) (subst (Grown (files (name_of c))) (sym here) w.2)
 
 -- what is staged makes of the file what it is to be
-outcome_is : (adds : Bool) (seen file : Option (List ℕ)) → (adds ≡ true → Grown seen file) → file_after seen (outcome_for adds seen file) ≡ file
+pub outcome_is : (adds : Bool) (seen file : Option (List ℕ)) → (adds ≡ true → Grown seen file) → file_after seen (outcome_for adds seen file) ≡ file
 outcome_is adds seen None h = refl
 outcome_is false seen (Some bytes) h = refl
 outcome_is true None (Some bytes) h = refl

@@ -26,14 +26,14 @@ use Rattle.commit_machine.proofs.runs.Moments.{run_safe, known_now}
 use Rattle.commit_machine.proofs.told.Restraints.{Fair, all_fair, fair_now}
 
 -- the state has a decision in flight
-abbrev Decides : State → Type 0
+abbrev pub Decides : State → Type 0
 Decides s = (made : List Made) × (s ≡ Committing made)
 
 module _ (j : Job) (d : Disk) where
-  not_from : (from to : List ℕ) (failed : Bool) → from ≢ new_name j.actor → is_decision j (event.Publish from to true failed) d ≡ false
+  pub not_from : (from to : List ℕ) (failed : Bool) → from ≢ new_name j.actor → is_decision j (event.Publish from to true failed) d ≡ false
   not_from from to failed ne = rw (same_false from (new_name j.actor) ne) refl
 
-  not_prepare : (from to : List ℕ) (failed : Bool) → record_in (d.files (new_name j.actor)) ≡ Some (prepare_of j) → is_decision j (event.Publish from to true failed) d ≡ false
+  pub not_prepare : (from to : List ℕ) (failed : Bool) → record_in (d.files (new_name j.actor)) ≡ Some (prepare_of j) → is_decision j (event.Publish from to true failed) d ≡ false
   not_prepare from to failed e = rw e (go (bytes_eq from (new_name j.actor) && bytes_eq to (record_name j.actor)))
     where
       go : (b : Bool) → (b && false) ≡ false
@@ -41,7 +41,7 @@ module _ (j : Job) (d : Disk) where
       go false = refl
 
   -- only that state makes a decision
-  decides : (s : State) (e : Event) → IsNext (next j s) e → Knows j s d → is_decision j e d ≡ true → Decides s
+  pub decides : (s : State) (e : Event) → IsNext (next j s) e → Knows j s d → is_decision j e d ≡ true → Decides s
   decides (Committing made) e is k h = (made, refl)
   decides Seizing _ seizes k h = absurd (cc)
   decides (Timing time) _ asks k h = absurd (cc)
