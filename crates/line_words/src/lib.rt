@@ -10,5 +10,5 @@ mod table;
 pub use command::Command;
 pub use cut::{list_words_of, words_of};
 pub use laws::{a_word_names_one_command, lines_are_cut_into_words, words_read_back};
-pub use line::{CommandLine, LineError, read_line};
+pub use line::{CommandLine, LineError, command_in, read_line};
 pub use table::{command_name, command_of, whole_name};

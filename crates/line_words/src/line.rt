@@ -2,7 +2,7 @@ ghost use Rattle.std.specs.Prelude.{◌≡◌, ◌⊎◌, ◌<◌, ◌≤◌, �
 ghost use Rattle.std.specs.List.{prefix_len};
 ghost use Rattle.std.specs.Char.{is_ascii_alphabetic};
 ghost use Rattle.mail_text.specs.Ascii.{is_blank};
-ghost use Rattle.line_words.specs.Line.{is_mark, word_length, command_named, takes_rest, takes_list, read_as, reading, IsUnknown, IsOpen, OrMemory, ComesWhere};
+ghost use Rattle.line_words.specs.Line.{is_mark, word_length, command_named, command_in, takes_rest, takes_list, read_as, reading, IsUnknown, IsOpen, OrMemory, ComesWhere};
 
 use crate::Command;
 use crate::cut::words_by;
@@ -53,6 +53,16 @@ impl From<Memory> for LineError {
     fn from(_: Memory) -> LineError {
         LineError::Memory
     }
+}
+
+/// The command that a line names, as `read_line` reads its word: nothing if the word names no command. It is the same
+/// whatever stands behind the word, also where `read_line` refuses the line.
+pub fn command_in(line: &[u8]) -> Option<Command>
+    ensures { result ≡ command_in line.now }
+{
+    let (_, text) = line.split_at(blank_length(line));
+    let (word, after) = text.split_at(word_length(text));
+    command_named(word, after)
 }
 
 /// Reads the line of a command: the command word and the words after it, or for `!` and `#` the rest as it stands.

@@ -11,7 +11,9 @@ use Rattle.line_words.specs.declared.line.CommandLine.{CommandLine}
 use Rattle.line_words.specs.declared.line.LineError.{LineError}
 use Rattle.line_words.specs.declared.command.Command.{Command}
 use Rattle.line_words.specs.declared.command.Command.TheVariants as command
-use Rattle.line_words.specs.Line.{reading}
+use Rattle.line_words.specs.declared.line.LineError.TheVariants.{TooLong}
+use Rattle.line_words.specs.Line.{is_long, command_word, after_word, command_in, with_words, read_named, reading}
+use Rattle.line_words.specs.Words.{words_by}
 use Rattle.rc_conditionals.specs.declared.conditions.Condition.{Condition}
 use Rattle.rc_conditionals.specs.declared.error.CondError.{CondError}
 use Rattle.rc_conditionals.specs.Turns.{is_live, turned}
@@ -47,11 +49,11 @@ named-brings true turns desk words = opening-brings desk words
 named-brings false true desk words = alone-brings desk (codes "else") words
 named-brings false false desk words = alone-brings desk (codes "endif") words
 
-is-condition : (c : Command) → is_condition c ≡ true → c ≡ command.Condition
+is-condition : (c : Command) → is_condition (Some c) ≡ true → c ≡ command.Condition
 is-condition command.Condition h = refl
 is-condition other h = absurd (cc h)
 
-command-brings : (line : CommandLine) (desk : Desk) → is_condition line.command ≡ true → brings_lines (meaning line desk) ≡ false
+command-brings : (line : CommandLine) (desk : Desk) → is_condition (Some line.command) ≡ true → brings_lines (meaning line desk) ≡ false
 command-brings line desk h =
     subst (λ (c : Command). brings_lines (if takes_no_words c && not (length line.words == 0) then Err (bad_arguments (name_of line.word)) else meaning_of c line desk) ≡ false)
     (sym (is-condition line.command h))
@@ -63,20 +65,37 @@ unless-brings : (found : Option (List ℕ)) (line : CommandLine) (desk : Desk) �
 unless-brings (Some w) line desk quiet = refl
 unless-brings None line desk quiet = quiet
 
-read-brings : (from : Origin) (desk : Desk) (r : Result CommandLine LineError) → turns_lines r ≡ true
-    → brings_lines (next (next (read_or_fault r) (allowed from)) (λ c. meaning c desk)) ≡ false
-read-brings from desk (Ok line) turns = unless-brings (line_of_origin from line) line desk (command-brings line desk turns)
-read-brings from desk (Err e) turns = refl
+-- a line whose word is `if`, `else` or `endif` brings nothing, also where it can't be read
+read-brings : (from : Origin) (desk : Desk) (line : List ℕ) → turns_lines line ≡ true → brings_lines (next (read_from from line) (λ c. meaning c desk)) ≡ false
+unfolding reading
+read-brings from desk line turns = long (is_long line)
+  where
+    brings : Result CommandLine LineError → Bool
+    brings r = brings_lines (next (next (read_or_fault r) (allowed from)) (λ c. meaning c desk))
+
+    worded : (c : Command) (words : Option (List (List ℕ))) → is_condition (Some c) ≡ true → brings (with_words c (command_word line) words) ≡ false
+    worded c None h = refl
+    worded c (Some words) h =
+        let read : CommandLine = record { command = c; word = command_word line; words = words; rest = [] } in
+        unless-brings (line_of_origin from read) read desk (command-brings read desk h)
+
+    named : (c : Option Command) → is_condition c ≡ true → brings (read_named c (command_word line) (after_word line)) ≡ false
+    named (Some command.Condition) h = worded command.Condition (words_by false (after_word line)) h
+    named other h = absurd (cc h)
+
+    long : (b : Bool) → brings (if b then Err TooLong else read_named (command_in line) (command_word line) (after_word line)) ≡ false
+    long true = refl
+    long false = named (command_in line) turns
 
 -- a line that is read where lines aren't carried out brings nothing
 dead-brings : (from : Origin) (desk : Desk) (line : List ℕ) → not (is_live desk.conditions) ≡ true → brings_lines (commanded_outside from desk line) ≡ false
-dead-brings from desk line dead = go (is_live desk.conditions) (turns_lines (reading line)) refl dead
+dead-brings from desk line dead = go (is_live desk.conditions) (turns_lines line) refl dead
   where
-    go : (live turns : Bool) → turns_lines (reading line) ≡ turns → not live ≡ true
+    go : (live turns : Bool) → turns_lines line ≡ turns → not live ≡ true
         → brings_lines (if not live && not turns then quietly unchanged else next (read_from from line) (λ c. meaning c desk)) ≡ false
     go true turns is h = absurd (cc h)
     go false false is h = refl
-    go false true is h = read-brings from desk (reading line) is
+    go false true is h = read-brings from desk line is
 
 or-right : (a b : Bool) → a ≡ false → (a || b) ≡ true → b ≡ true
 or-right true b e h = absurd (cc e)

@@ -8,7 +8,7 @@ use Rattle.line_words.specs.declared.line.CommandLine.{CommandLine}
 use Rattle.line_words.specs.declared.command.Command.{Command}
 use Rattle.line_words.specs.declared.command.Command.TheVariants as command
 use Rattle.line_words.specs.declared.line.LineError.{LineError}
-use Rattle.line_words.specs.Line.{reading}
+use Rattle.line_words.specs.Line.{command_in, reading}
 use Rattle.rc_conditionals.specs.Turns.{is_live}
 use Rattle.command_desk.specs.declared.desk.Desk.{Desk}
 use Rattle.command_desk.specs.declared.steps.Ask as asked_of
@@ -83,18 +83,17 @@ abbrev pub read_from : Origin → List ℕ → OrFault CommandLine
 read_from from line = next (read_or_fault (reading line)) (allowed from)
 
 -- the command is `if`, `else` or `endif`
-abbrev pub is_condition : Command → Bool
-is_condition command.Condition = true
+abbrev pub is_condition : Option Command → Bool
+is_condition (Some command.Condition) = true
 is_condition other = false
 
--- what is read is such a command
-abbrev pub turns_lines : Result CommandLine LineError → Bool
-turns_lines (Ok line) = is_condition line.command
-turns_lines (Err e) = false
+-- a line's word names such a command, whatever stands behind it
+abbrev pub turns_lines : List ℕ → Bool
+turns_lines line = is_condition (command_in line)
 
 -- a line is passed over: a condition that is open doesn't hold, and the line is none of `if`, `else` and `endif`
 abbrev pub passes_over : Desk → List ℕ → Bool
-passes_over desk line = not (is_live desk.conditions) && not (turns_lines (reading line))
+passes_over desk line = not (is_live desk.conditions) && not (turns_lines line)
 
 -- a definition is under way
 abbrev pub is_defining : Desk → Bool

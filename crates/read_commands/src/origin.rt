@@ -1,6 +1,5 @@
 // Where a line comes from, and the commands that may stand there.
 ghost use Rattle.std.specs.Prelude.{◌≡◌, List, ℕ, None, IfErr, IfOk, OnOk};
-ghost use Rattle.line_words.specs.Line.{reading};
 ghost use Rattle.command_desk.specs.Answers.{Means, IsRefusedBy, next};
 ghost use Rattle.command_desk.specs.declared.desk.Desk.{Desk};
 ghost use Rattle.command_desk.specs.Desks.{IsDesk};
@@ -12,9 +11,8 @@ ghost use Rattle.read_commands.specs.Origins.{is_of_startup, leaves_draft, line_
 
 use crate::dispatch::{command_line, name_of, perform};
 use command_desk::{Desk, Refusal, Steps, fault, quietly, unchanged};
-use line_words::{Command, CommandLine, LineError, read_line};
+use line_words::{Command, CommandLine, command_in};
 use macro_commands::definition_line;
-use mail_text::Memory;
 use std::alloc::Global;
 
 /// Where a line comes from.
@@ -103,27 +101,19 @@ fn read_command(alloc: Global, origin: Origin, line: &[u8]) -> Result<CommandLin
     Ok(line)
 }
 
-// Whether the line of a command reads as `if`, `else` or `endif`.
-fn turns_lines(alloc: Global, line: &[u8]) -> Result<bool, Memory>
-    ensures { IfOk result (λ turns. turns ≡ turns_lines (reading line.now)) }
+// Whether a line's word names `if`, `else` or `endif`, whatever stands behind it.
+fn turns_lines(line: &[u8]) -> bool
+    ensures { result ≡ turns_lines line.now }
 {
-    match read_line(alloc, line) {
-        Ok(line) => Ok(matches!(line.command, Command::Condition)),
-        Err(LineError::Memory) => Err(Memory),
-        Err(_) => Ok(false),
-    }
+    matches!(command_in(line), Some(Command::Condition))
 }
 
 // Whether a line is passed over: a condition that is open doesn't hold, and the line is none of `if`, `else` and
 // `endif`. It may be no command.
-fn passes_over(alloc: Global, desk: &Desk, line: &[u8]) -> Result<bool, Memory>
-    ensures { IfOk result (λ passes. passes ≡ passes_over desk.now line.now) }
+fn passes_over(desk: &Desk, line: &[u8]) -> bool
+    ensures { result ≡ passes_over desk.now line.now }
 {
-    if desk.conditions.live() {
-        Ok(false)
-    } else {
-        Ok(!turns_lines(alloc, line)?)
-    }
+    !desk.conditions.live() && !turns_lines(line)
 }
 
 // What a line comes to that isn't passed over.
@@ -156,7 +146,7 @@ fn perform_command(
     ensures means { Means result (commanded_outside origin desk.now line.now) }
     ensures desk { IfOk result (λ steps. IsDesk (effect desk.now steps.effects)) }
 {
-    if passes_over(alloc, desk, line)? {
+    if passes_over(desk, line) {
         Ok(quietly(alloc, unchanged(alloc)))
     } else {
         perform_read(alloc, origin, line, desk)
