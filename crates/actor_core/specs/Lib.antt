@@ -1,0 +1,4 @@
+pub mod Shown
+pub mod Starting
+pub mod Settling
+pub mod Answers
