@@ -3,16 +3,17 @@ ghost use Rattle.std.specs.Prelude.{IfOk};
 ghost use Rattle.host_port.specs.Calls.{FitsLoad};
 
 use crate::deliveries::{Part, put_anyhow, staged_bytes};
-use crate::files::{give_staged, remove_file, rename_file, sync_name, write_file};
+use crate::files::{give_staged, remove_file, rename_file, sync_name, write_file, write_unnamed};
 use crate::folders::Folders;
 use crate::kinds::{is_absence, is_empty_place, is_folder, refuse_own, user};
 use crate::locks::{Marks, lock, locker_of, refuse_broken, refuse_unlocked, unlock};
 use crate::paths::{Place, actor_of, is_staged, path_of, place_before_link, place_of};
 use crate::reading::load;
-use crate::reasons::FileError;
+use crate::reasons::{FileError, Speaker};
 use crate::rights::Rights;
 use crate::spool::{Errand, Helper, Operation};
 use crate::tails::extend;
+use crate::waiting::Waits;
 use host_port::LoadAnswer;
 use std::alloc::Global;
 use std::fs::{File, Files};
@@ -25,7 +26,7 @@ use std::time::{Clock, Duration};
 #[derive(Drop)]
 pub struct Disk {
     alloc: Global,
-    wait: Duration,
+    waits: Waits,
     actor: Option<String>,
     folders: Folders,
     rights: Rights,
@@ -90,7 +91,10 @@ impl Disk {
     pub fn new(alloc: Global, wait: Duration) -> Disk {
         Disk {
             alloc,
-            wait,
+            waits: Waits {
+                span: wait,
+                speaker: Speaker::Session,
+            },
             actor: None,
             folders: Folders::new(alloc),
             rights: Rights::new(alloc),
@@ -103,7 +107,13 @@ impl Disk {
     /// The run delivers: its commits only add to mailboxes. Run by the system's administrator it goes on whatever others
     /// do to theirs under its locks.
     pub fn deliver(&mut self) {
+        self.waits.speaker = Speaker::Delivery;
         self.delivers = user() == 0;
+    }
+
+    /// Which program the run is of.
+    pub fn speaker(&self) -> Speaker {
+        self.waits.speaker
     }
 
     fn place<R: Files<File = File>>(&mut self, rt: &R, name: &[u8]) -> Result<Place, FileError> {
@@ -159,7 +169,7 @@ impl Disk {
             Err(error) if is_nowhere(name, &error) => return Ok(absent()),
             answer => answer?,
         };
-        let answer = load(rt, alloc, &self.marks, &place, self.wait)?;
+        let answer = load(rt, alloc, &self.marks, &place, self.waits)?;
         if let Place::Own(path) = &place
             && answer.bytes.is_some()
         {
@@ -182,7 +192,7 @@ impl Disk {
             Err(error) if is_nowhere(name, &error) => return Ok(absent()),
             answer => answer?,
         };
-        let answer = match load(rt, alloc, &self.marks, &place, self.wait) {
+        let answer = match load(rt, alloc, &self.marks, &place, self.waits) {
             Ok(answer) => answer,
             Err(FileError::NotRegular) if self.delivers => absent(),
             Err(error) => return Err(error),
@@ -200,7 +210,7 @@ impl Disk {
         }
     }
 
-    /// Writes a whole file.
+    /// Writes a whole file. The name of one where a record is made needn't last, as it is renamed next.
     pub fn stage<R: Files<File = File> + Processes>(
         &mut self,
         rt: &R,
@@ -208,7 +218,11 @@ impl Disk {
         bytes: &[u8],
     ) -> Result<(), FileError> {
         let place = self.place(rt, name)?;
-        match (write_file(rt, place.path(), bytes), &place) {
+        let written = match &place {
+            Place::Own(path) => write_unnamed(rt, path.as_str(), bytes),
+            _ => write_file(rt, place.path(), bytes),
+        };
+        match (written, &place) {
             (Err(refusal), Place::Staged { file, digits, .. }) => {
                 let errand = Errand {
                     operation: Operation::Stage,
@@ -268,7 +282,7 @@ impl Disk {
             at: 0,
             text: text.as_slice(),
         };
-        put_anyhow(rt, self.alloc, file, part, self.wait)?;
+        put_anyhow(rt, self.alloc, file, part, self.waits.span)?;
         let _ = rt.remove_file(staged);
         sync_name(rt, staged)?;
         Ok(true)
@@ -319,7 +333,7 @@ impl Disk {
                     at,
                     text: tail,
                 };
-                put_anyhow(rt, self.alloc, path, part, self.wait)
+                put_anyhow(rt, self.alloc, path, part, self.waits.span)
             }
             (answer, _) => answer,
         }
@@ -381,7 +395,7 @@ impl Disk {
         let path = place.path();
         refuse_own(rt, self.alloc, self.actor.as_ref(), path)?;
         let helper = Helper::new(self.alloc, &self.rights);
-        lock(rt, &helper, &mut self.marks, path, token, self.wait)
+        lock(rt, &helper, &mut self.marks, path, token, self.waits)
     }
 
     pub fn unlock<R: Files<File = File> + Processes>(
@@ -425,7 +439,7 @@ impl Disk {
             answer => Some(answer?),
         };
         self.rights
-            .take(rt, self.alloc, name, place.as_ref(), self.wait)
+            .take(rt, self.alloc, name, place.as_ref(), self.waits.span)
     }
 
     pub fn release(&mut self, name: &[u8]) {

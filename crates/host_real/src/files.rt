@@ -90,21 +90,31 @@ pub fn give_staged<R: Files<File = File>>(
     Ok(file.sync_all()?)
 }
 
-/// Writes a whole file, private to its user, and waits until it, and its name, have reached the device.
-pub fn write_file<R: Files<File = File>>(
+/// Writes a whole file, private to its user, and waits until it has reached the device. Its name may not have yet.
+pub fn write_unnamed<R: Files<File = File>>(
     rt: &R,
     path: &str,
     bytes: &[u8],
 ) -> Result<(), FileError> {
     let mut file = create_private(rt, path)?;
     file.write_all(bytes)?;
-    file.sync_all()?;
+    Ok(file.sync_all()?)
+}
+
+/// Writes a whole file, private to its user, and waits until it, and its name, have reached the device.
+pub fn write_file<R: Files<File = File>>(
+    rt: &R,
+    path: &str,
+    bytes: &[u8],
+) -> Result<(), FileError> {
+    write_unnamed(rt, path, bytes)?;
     Ok(sync_folder(rt, path)?)
 }
 
 /// Makes a private file that isn't there yet, whole from its first moment: it is written under another name and then
-/// linked into place. False if one is there, and then nothing changes. The other name is taken away again.
-pub fn write_new<R: Files>(
+/// linked into place. False if one is there, or if another takes the other name away, and then nothing changes. The other
+/// name is taken away again. What is made has reached the device, but its name may not have yet.
+pub fn make_new<R: Files>(
     rt: &R,
     path: &str,
     beside: &str,
@@ -113,16 +123,25 @@ pub fn write_new<R: Files>(
     let mut file = create_private(rt, beside)?;
     let made = linked(rt, &mut file, beside, path, bytes);
     let _ = rt.remove_file(beside);
-    if made? {
+    Ok(made?)
+}
+
+/// Makes a private file so, and waits until its name has reached the device too.
+pub fn write_new<R: Files>(
+    rt: &R,
+    path: &str,
+    beside: &str,
+    bytes: &[u8],
+) -> Result<bool, FileError> {
+    let made = make_new(rt, path, beside, bytes)?;
+    if made {
         sync_folder(rt, path)?;
-        Ok(true)
-    } else {
-        Ok(false)
     }
+    Ok(made)
 }
 
 // Writes a new file, and gives it another name too. False if another file of that name is there: a link that was done may
-// be answered so, over a network.
+// be answered so, over a network. False too if another has taken its first name away meanwhile.
 fn linked<R: Files, F: Write + OpenFile>(
     rt: &R,
     file: &mut F,
@@ -139,6 +158,7 @@ fn linked<R: Files, F: Write + OpenFile>(
             path,
             &file.metadata()?,
         ),
+        Err(error) if error.kind() == ErrorKind::NotFound => Ok(false),
         Err(error) => Err(error),
     }
 }

@@ -1,5 +1,5 @@
 // Locks made of files. The lock on F is the file F.lock, which holds its owner's token.
-use crate::files::{remove_file, sync_name, write_new};
+use crate::files::{make_new, remove_file, sync_name, write_new};
 use crate::kinds::{
     Stamp, is_absence, is_empty_place, is_out_of_reach, look, may_be_changed, open_both, stamp_at,
     user,
@@ -8,7 +8,7 @@ use crate::leases::is_leased;
 use crate::paths::{Place, beside_name, is_token, lock_path, staged_path, token_text};
 use crate::reasons::FileError;
 use crate::spool::{Errand, Helper, Operation};
-use crate::waiting::{LockWait, Patience};
+use crate::waiting::{LockWait, Patience, Waits};
 use std::alloc::Global;
 use std::fs::{File, Files, OpenFile};
 use std::io::{Eprint, Error, ErrorKind, Read};
@@ -141,7 +141,8 @@ pub fn hold_of<R: Files>(
     }
 }
 
-// Puts a lock if none stands. False if one stands.
+// Puts a lock if none stands. False if one stands. Its name reaches the device with that of what is staged beside the
+// file, before a change is decided.
 fn put_lock<R: Files<File = File> + Processes>(
     rt: &R,
     helper: &Helper<'_>,
@@ -153,7 +154,7 @@ fn put_lock<R: Files<File = File> + Processes>(
         return Ok(false);
     }
     let beside = beside_name(helper.alloc, path, digits)?;
-    match write_new(rt, lock, beside.as_str(), digits.as_bytes()) {
+    match make_new(rt, lock, beside.as_str(), digits.as_bytes()) {
         Err(refusal) => helper.ask(rt, &Errand::of(Operation::Lock, path, digits), refusal),
         answer => answer,
     }
@@ -167,13 +168,13 @@ pub fn lock<R: Files<File = File> + Clock + Processes + Eprint>(
     marks: &mut Marks,
     path: &str,
     token: u64,
-    wait: Duration,
+    waits: Waits,
 ) -> Result<bool, FileError> {
     let alloc = helper.alloc;
     let lock = lock_path(alloc, path)?;
     let lock = lock.as_str();
     let digits = token_text(alloc, token)?;
-    let mut waiting = LockWait::new(rt, lock, wait, PAUSE);
+    let mut waiting = LockWait::new(rt, lock, waits, PAUSE);
     for _ in 0..u64::MAX {
         if !is_leased(rt, alloc, path) {
             let open = may_be_changed(rt, path)?;

@@ -9,13 +9,13 @@ use crate::kinds::{
 use crate::locks::{Hold, Marks, hold_of, is_held};
 use crate::paths::{Place, lock_path};
 use crate::reasons::FileError;
-use crate::waiting::LockWait;
+use crate::waiting::{LockWait, Waits};
 use host_port::LoadAnswer;
 use mail_text::Text;
 use std::alloc::Global;
 use std::fs::{File, Files, OpenFile};
 use std::io::{Eprint, Error, ErrorKind, Read};
-use std::time::{Clock, Duration};
+use std::time::Clock;
 
 /// The most bytes of a file that a load takes.
 pub const LOAD_LIMIT: u64 = 268_435_456;
@@ -199,13 +199,13 @@ pub fn load<R: Files + Clock + Eprint>(
     alloc: Global,
     marks: &Marks,
     place: &Place,
-    wait: Duration,
+    waits: Waits,
 ) -> Result<LoadAnswer, FileError>
     ensures { IfOk result (λ a. FitsLoad a.bytes) }
 {
     let lock = lock_path(alloc, place.path())?;
     let lock = lock.as_str();
-    let mut waiting = LockWait::new(rt, lock, wait, PAUSE);
+    let mut waiting = LockWait::new(rt, lock, waits, PAUSE);
     for _ in 0..u64::MAX {
         let hold = hold_of(rt, alloc, marks, lock)?;
         if hold == Hold::Other && waiting.again(rt, alloc) {

@@ -7,7 +7,7 @@ use crate::children::run;
 use crate::disk::Disk;
 use crate::editors::edit;
 use crate::reading::LOAD_LIMIT;
-use crate::reasons::{FileError, tell};
+use crate::reasons::{FileError, Speaker, tell};
 use crate::streams::{put, take};
 use host_port::{
     ChildAnswer, ChildError, DiskFault, EditAnswer, Host, InFault, LoadAnswer, LoadError, OutFault,
@@ -82,6 +82,7 @@ impl<R: Files<File = File> + Input + Print + Eprint + Processes + Clock + Drop> 
 fn counted<R: Eprint, T: Drop>(
     rt: &R,
     alloc: Global,
+    speaker: Speaker,
     name: &[u8],
     answer: Result<T, FileError>,
     count: &mut u64,
@@ -93,7 +94,7 @@ fn counted<R: Eprint, T: Drop>(
         Ok(answer) => Ok(answer),
         Err(error) => {
             *count = count.saturating_add(1);
-            tell(rt, alloc, name, &error);
+            tell(rt, alloc, speaker, name, &error);
             Err(DiskFault)
         }
     }
@@ -115,6 +116,7 @@ impl<R: Files<File = File> + Input + Print + Eprint + Processes + Clock + Drop> 
                 tell(
                     &self.rt,
                     self.alloc,
+                    self.disk.speaker(),
                     b"standard input",
                     &FileError::System(error),
                 );
@@ -131,6 +133,7 @@ impl<R: Files<File = File> + Input + Print + Eprint + Processes + Clock + Drop> 
                 tell(
                     &self.rt,
                     self.alloc,
+                    self.disk.speaker(),
                     b"standard output",
                     &FileError::System(error),
                 );
@@ -148,7 +151,7 @@ impl<R: Files<File = File> + Input + Print + Eprint + Processes + Clock + Drop> 
             Err(FileError::Memory) => Err(LoadError::Memory),
             Err(error) => {
                 self.disks = self.disks.saturating_add(1);
-                tell(&self.rt, self.alloc, name, &error);
+                tell(&self.rt, self.alloc, self.disk.speaker(), name, &error);
                 Err(LoadError::Failed)
             }
         }
@@ -156,37 +159,44 @@ impl<R: Files<File = File> + Input + Print + Eprint + Processes + Clock + Drop> 
 
     fn stage(&mut self, name: &[u8], bytes: &[u8]) -> Result<(), DiskFault> {
         let answer = self.disk.stage(&self.rt, name, bytes);
-        counted(&self.rt, self.alloc, name, answer, &mut self.disks)
+        let speaker = self.disk.speaker();
+        counted(&self.rt, self.alloc, speaker, name, answer, &mut self.disks)
     }
 
     fn publish(&mut self, from: &[u8], to: &[u8]) -> Result<bool, DiskFault> {
         let answer = self.disk.publish(&self.rt, from, to);
-        counted(&self.rt, self.alloc, to, answer, &mut self.disks)
+        let speaker = self.disk.speaker();
+        counted(&self.rt, self.alloc, speaker, to, answer, &mut self.disks)
     }
 
     fn extend(&mut self, name: &[u8], at: u64, bytes: &[u8]) -> Result<(), DiskFault> {
         let answer = self.disk.extend(&self.rt, name, at, bytes);
-        counted(&self.rt, self.alloc, name, answer, &mut self.disks)
+        let speaker = self.disk.speaker();
+        counted(&self.rt, self.alloc, speaker, name, answer, &mut self.disks)
     }
 
     fn erase(&mut self, name: &[u8]) -> Result<(), DiskFault> {
         let answer = self.disk.erase(&self.rt, name);
-        counted(&self.rt, self.alloc, name, answer, &mut self.disks)
+        let speaker = self.disk.speaker();
+        counted(&self.rt, self.alloc, speaker, name, answer, &mut self.disks)
     }
 
     fn lock(&mut self, name: &[u8], token: u64) -> Result<bool, DiskFault> {
         let answer = self.disk.lock(&self.rt, name, token);
-        counted(&self.rt, self.alloc, name, answer, &mut self.disks)
+        let speaker = self.disk.speaker();
+        counted(&self.rt, self.alloc, speaker, name, answer, &mut self.disks)
     }
 
     fn unlock(&mut self, name: &[u8], token: u64) -> Result<(), DiskFault> {
         let answer = self.disk.unlock(&self.rt, name, token);
-        counted(&self.rt, self.alloc, name, answer, &mut self.disks)
+        let speaker = self.disk.speaker();
+        counted(&self.rt, self.alloc, speaker, name, answer, &mut self.disks)
     }
 
     fn seize(&mut self, name: &[u8]) -> Result<bool, DiskFault> {
         let answer = self.disk.seize(&self.rt, name);
-        counted(&self.rt, self.alloc, name, answer, &mut self.disks)
+        let speaker = self.disk.speaker();
+        counted(&self.rt, self.alloc, speaker, name, answer, &mut self.disks)
     }
 
     fn release(&mut self, name: &[u8]) {
@@ -205,7 +215,7 @@ impl<R: Files<File = File> + Input + Print + Eprint + Processes + Clock + Drop> 
             Err(FileError::Memory) => Err(ChildError::Memory),
             Err(error) => {
                 self.children = self.children.saturating_add(1);
-                tell(&self.rt, self.alloc, program, &error);
+                tell(&self.rt, self.alloc, self.disk.speaker(), program, &error);
                 Err(ChildError::Failed)
             }
         }
@@ -224,7 +234,7 @@ impl<R: Files<File = File> + Input + Print + Eprint + Processes + Clock + Drop> 
             Err(FileError::Memory) => Err(ChildError::Memory),
             Err(error) => {
                 self.children = self.children.saturating_add(1);
-                tell(&self.rt, self.alloc, name, &error);
+                tell(&self.rt, self.alloc, self.disk.speaker(), name, &error);
                 Err(ChildError::Failed)
             }
         }

@@ -4,6 +4,22 @@ use mail_text::Memory;
 use std::alloc::{AllocError, AllocFailed, Global};
 use std::io::{Eprint, Error, ErrorKind};
 
+/// Which program says why a call failed.
+#[derive(Clone, Copy)]
+pub enum Speaker {
+    Session,
+    Delivery,
+}
+
+impl Speaker {
+    fn name(self) -> &'static str {
+        match self {
+            Speaker::Session => "mailx",
+            Speaker::Delivery => "mail_deliver",
+        }
+    }
+}
+
 /// Why a file was not read or changed.
 #[derive(Drop, Debug)]
 pub enum FileError {
@@ -125,8 +141,8 @@ fn reason_of(alloc: Global, error: &FileError) -> Result<String, AllocError> {
         FileError::SharedFolder { .. } => "another user may write a folder above it",
         FileError::Outside => "not in the folder of mailboxes",
         FileError::NotOwn => "belongs to another user",
-        FileError::LockGone => "the lock is gone",
-        FileError::Changed => "changed while it was locked",
+        FileError::LockGone => "the lock is gone: see libexec/mailx/settle",
+        FileError::Changed => "changed while it was locked: see libexec/mailx/settle",
         FileError::OwnFile => "one of mailx's own files",
         FileError::NotText => "not UTF-8",
         FileError::TooLarge { .. } => "too large",
@@ -157,16 +173,17 @@ fn shown(alloc: Global, name: &[u8]) -> Result<String, AllocError> {
 
 /// Prints why a call failed: the name of what it was about, and the reason. If memory is short, or the standard error
 /// takes nothing, nothing is printed.
-pub fn tell<R: Eprint>(rt: &R, alloc: Global, name: &[u8], error: &FileError) {
+pub fn tell<R: Eprint>(rt: &R, alloc: Global, speaker: Speaker, name: &[u8], error: &FileError) {
     if let Ok(reason) = reason_of(alloc, error) {
-        tell_words(rt, alloc, name, reason.as_str());
+        tell_words(rt, alloc, speaker, name, reason.as_str());
     }
 }
 
 /// Prints words about a name.
-pub fn tell_words<R: Eprint>(rt: &R, alloc: Global, name: &[u8], words: &str) {
+pub fn tell_words<R: Eprint>(rt: &R, alloc: Global, speaker: Speaker, name: &[u8], words: &str) {
     if let Ok(name) = shown(alloc, name) {
-        let _ = rt.eprintln(format_args!("mailx: {name}: {words}"));
+        let speaker = speaker.name();
+        let _ = rt.eprintln(format_args!("{speaker}: {name}: {words}"));
     }
 }
 

@@ -1,5 +1,5 @@
 // Waiting for others, by the monotonic clock.
-use crate::reasons::{tell_words, time_words};
+use crate::reasons::{Speaker, tell_words, time_words};
 use std::alloc::{AllocError, Global};
 use std::fs::Files;
 use std::io::Eprint;
@@ -51,19 +51,28 @@ impl Patience {
     }
 }
 
+/// How long others that have a right or a lock are waited for, and which program says so.
+#[derive(Clone, Copy)]
+pub struct Waits {
+    pub span: Duration,
+    pub speaker: Speaker,
+}
+
 /// Waiting for a lock that another has. After a second that is said, once.
 #[derive(Drop)]
 pub struct LockWait<'a> {
     patience: Patience,
     lock: &'a str,
+    speaker: Speaker,
     is_told: bool,
 }
 
 impl<'a> LockWait<'a> {
-    pub fn new<C: Clock>(clock: &C, lock: &'a str, wait: Duration, shortest: u64) -> LockWait<'a> {
+    pub fn new<C: Clock>(clock: &C, lock: &'a str, waits: Waits, shortest: u64) -> LockWait<'a> {
         LockWait {
-            patience: Patience::new(clock, wait, shortest),
+            patience: Patience::new(clock, waits.span, shortest),
             lock,
+            speaker: waits.speaker,
             is_told: false,
         }
     }
@@ -76,7 +85,7 @@ impl<'a> LockWait<'a> {
             && !left.is_zero()
         {
             self.is_told = true;
-            tell_wait(rt, alloc, self.lock, left);
+            tell_wait(rt, alloc, self.speaker, self.lock, left);
         }
         self.patience.again(rt)
     }
@@ -100,11 +109,17 @@ fn wait_words(alloc: Global, age: u64, left: Duration) -> Result<String, AllocEr
 }
 
 // Says what is waited for: the lock, how old it is, and how long it is still waited for.
-fn tell_wait<R: Clock + Files + Eprint>(rt: &R, alloc: Global, lock: &str, left: Duration) {
+fn tell_wait<R: Clock + Files + Eprint>(
+    rt: &R,
+    alloc: Global,
+    speaker: Speaker,
+    lock: &str,
+    left: Duration,
+) {
     if let Some(age) = age_of(rt, lock)
         && let Ok(words) = wait_words(alloc, age, left)
     {
-        tell_words(rt, alloc, lock.as_bytes(), words.as_str());
+        tell_words(rt, alloc, speaker, lock.as_bytes(), words.as_str());
     }
 }
 
