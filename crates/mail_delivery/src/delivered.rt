@@ -46,13 +46,13 @@ fn push_opening(alloc: Global, text: &mut Vec<u8>, sender: &[u8], m: Moment) -> 
 }
 
 /// The From line of the sender and the moment, and then a body as `push_line` makes it, without line feeds at the end.
-pub(crate) fn message(alloc: Global, sender: &[u8], body: &[u8], m: Moment) -> Result<Text, Memory>
+pub(crate) fn message(alloc: Global, sender: &[u8], body: Text, m: Moment) -> Result<Text, Memory>
     requires { IsPrintable m }
-    ensures { IfOk result (λ t. t ≡ trimmed (with_feed (opening_line sender.now m) ++ body.now)) }
+    ensures { IfOk result (λ t. t ≡ trimmed (with_feed (opening_line sender.now m) ++ body)) }
 {
     let mut text = Vec::new(alloc);
     push_opening(alloc, &mut text, sender, m)?;
-    text.extend_from_slice(body)?;
+    text.extend_from_slice(body.bytes())?;
     let end = trimmed_len(&text);
     text.truncate(end);
     Ok(Text::of(text))

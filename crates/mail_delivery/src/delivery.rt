@@ -84,40 +84,53 @@ fn take_body<H: Host>(alloc: Global, host: &mut H) -> Result<Text, Stop>
     }
 }
 
-// One text behind what the mailbox of a user holds.
-fn addition(alloc: Global, text: &[u8], user: &[u8]) -> Result<Change, Memory>
-    ensures { IfOk result (λ c. c ≡ Add (mailbox user.now) (text.now ∷ [])) }
+// A text behind what the mailbox of a user holds.
+fn addition(alloc: Global, text: Text, user: &[u8]) -> Result<Change, Memory>
+    ensures { IfOk result (λ c. c ≡ Add (mailbox user.now) (text ∷ [])) }
 {
     let mut texts = Items::new(alloc);
-    texts.push(Text::copy(alloc, text)?)?;
+    texts.push(text)?;
     let name = mailbox(alloc, user)?;
     Ok(Change::Add { name, texts })
 }
 
-// One text behind what each user's mailbox holds.
-fn additions(alloc: Global, text: &[u8], users: &[Text]) -> Result<Items<Change>, Memory>
+// A copy of one text behind what each user's mailbox holds.
+fn copied_additions(alloc: Global, text: &[u8], users: &[Text]) -> Result<Items<Change>, Memory>
     ensures { IfOk result (λ changes. changes ≡ additions text.now users.now) }
 {
     let mut changes = Items::new(alloc);
     for user in users {
-        changes.push(addition(alloc, text, user.bytes())?)?;
+        let copied = Text::copy(alloc, text)?;
+        changes.push(addition(alloc, copied, user.bytes())?)?;
     }
     Ok(changes)
 }
 
-// What is committed of a body at a moment.
+// One text behind what each user's mailbox holds; the last user gets the text itself.
+fn additions(alloc: Global, text: Text, users: &[Text]) -> Result<Items<Change>, Memory>
+    ensures { IfOk result (λ changes. changes ≡ additions text users.now) }
+{
+    let [front @ .., last] = users else {
+        return Ok(Items::new(alloc));
+    };
+    let mut changes = copied_additions(alloc, text.bytes(), front)?;
+    changes.push(addition(alloc, text, last.bytes())?)?;
+    Ok(changes)
+}
+
+// What is committed of a body at a moment. The body is gone then, before the commit takes memory.
 fn changes_of(
     alloc: Global,
     request: &Request,
-    body: &[u8],
+    body: Text,
     m: Moment,
 ) -> Result<Items<Change>, Memory>
     requires { IsPrintable m }
-    ensures { let text = trimmed (with_feed (opening_line request.now.sender m) ++ body.now) in
+    ensures { let text = trimmed (with_feed (opening_line request.now.sender m) ++ body) in
         IfOk result (λ changes. changes ≡ additions text request.now.users) }
 {
     let text = message(alloc, request.sender.bytes(), body, m)?;
-    additions(alloc, text.bytes(), request.users.items())
+    additions(alloc, text, request.users.items())
 }
 
 // Whether a change has a file of this name.
@@ -184,12 +197,12 @@ fn put_at<H: Host>(
     host: &mut H,
     request: &Request,
     env: &Environment,
-    body: &[u8],
+    body: Text,
     m: Moment,
 ) -> Result<DeliverStatus, Stop>
     requires { IsPrintable m }
     ensures ran { Ran H.world host.old host.new
-        (OfLines body.now (λ lines. committing request.now env.now lines m) result) }
+        (OfLines body (λ lines. committing request.now env.now lines m) result) }
     ensures cause { Caused (H.world.counts host.old) (H.world.counts host.new) result }
     ensures plain { IfOk result IsAnswer }
 {
@@ -205,9 +218,9 @@ fn put<H: Host>(
     host: &mut H,
     request: &Request,
     env: &Environment,
-    body: &[u8],
+    body: Text,
 ) -> Result<DeliverStatus, Stop>
-    ensures ran { Ran H.world host.old host.new (OfLines body.now (delivering request.now env.now) result) }
+    ensures ran { Ran H.world host.old host.new (OfLines body (delivering request.now env.now) result) }
     ensures cause { Caused (H.world.counts host.old) (H.world.counts host.new) result }
     ensures plain { IfOk result IsAnswer }
 {
@@ -230,7 +243,7 @@ fn carry_out<H: Host>(
     ensures plain { IfOk result IsAnswer }
 {
     match take_body(alloc, host) {
-        Ok(body) => put(alloc, host, request, env, body.bytes()),
+        Ok(body) => put(alloc, host, request, env, body),
         Err(cause) => Err(cause),
     }
 }

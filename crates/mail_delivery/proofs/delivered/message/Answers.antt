@@ -9,7 +9,8 @@ returns c =
     let opening = with_feed (opening_line c.args.sender.now c.args.m) in
     let whole =
     c.in_ok-extend_from_slice.ensures.items
-    ∙ ap (λ (x : List ℕ). x ++ c.args.body.now) (c.in_ok-push_opening.ensures ∙ ap (λ (x : List ℕ). x ++ opening) c.new-text.ensures.items) in
+    ∙ ap (λ (x : List ℕ). x ++ c.bytes.result.now) (c.in_ok-push_opening.ensures ∙ ap (λ (x : List ℕ). x ++ opening) c.new-text.ensures.items)
+    ∙ ap (λ (x : List ℕ). opening ++ x) c.bytes.ensures in
     c.of.ensures
     ∙ c.truncate.ensures.items
     ∙ ap (take c.trimmed_len-end.result) (sym c.deref.ensures.value)

@@ -6,7 +6,7 @@ pub returns-in-Ok-clause-ran : goal.returns-in-Ok-clause-ran
 returns-in-Ok-clause-ran g c =
     let request = c.args.request.now in
     let env = c.args.env.now in
-    Ran-then (carried request env c.in-Ok.body c.put.result) (c.in-Ok.ensures.ran request env) (rw c.bytes.ensures at c.put.ensures.ran)
+    Ran-then (carried request env c.in-Ok.body c.put.result) (c.in-Ok.ensures.ran request env) c.put.ensures.ran
 
 pub returns-in-Err-clause-ran : goal.returns-in-Err-clause-ran
 returns-in-Err-clause-ran g c = c.in-Err.ensures.ran c.args.request.now c.args.env.now
