@@ -42,12 +42,12 @@ record Puts (before now : List ℕ) (part : List ℕ) : Type 0 where
   between : List ℕ
   is : now ≡ before ++ (between ++ part)
 
-added_here : (name : List ℕ) (texts base : List (List ℕ)) (files : Files)
+pub added_here : (name : List ℕ) (texts base : List (List ℕ)) (files : Files)
     → after files (Add name texts) base name ≡ Some (bytes_of (files name) ++ missing_feeds (bytes_of (files name)) ++ join texts)
 unfolding outcome_of
 added_here name texts base files = after-here files (Add name texts) base (Some (bytes_of (files name) ++ missing_feeds (bytes_of (files name)) ++ join texts)) refl
 
-raw_here : (name bytes : List ℕ) (base : List (List ℕ)) (files : Files) → after files (AddRaw name bytes) base name ≡ Some (bytes_of (files name) ++ bytes)
+pub raw_here : (name bytes : List ℕ) (base : List (List ℕ)) (files : Files) → after files (AddRaw name bytes) base name ≡ Some (bytes_of (files name) ++ bytes)
 unfolding outcome_of
 raw_here name bytes base files = after-here files (AddRaw name bytes) base (Some (bytes_of (files name) ++ bytes)) refl
 

@@ -38,7 +38,7 @@ boxed_proper folder vars proper =
     (stamped_all (texts_of folder.folder) folder.marks proper))
 
 -- ---- one change
-one_change : (change : Change) (base : List (List ℕ)) (files : Files) → apply (change ∷ []) base files ≡ after files change base
+pub one_change : (change : Change) (base : List (List ℕ)) (files : Files) → apply (change ∷ []) base files ≡ after files change base
 unfolding apply
 one_change change base files = refl
 

@@ -1,13 +1,15 @@
 -- Where the messages of a folder that is left go.
-use Rattle.std.specs.Prelude.{◌≡◌, ◌≢◌, ℕ, true, List, [], ◌∷◌, ◌++◌, Some, map, codes, if◌then◌else◌}
+use Rattle.std.specs.Prelude.{◌≡◌, ◌≢◌, ℕ, true, false, List, [], ◌∷◌, ◌++◌, Some, All, map, codes, if◌then◌else◌}
 use Rattle.mbox_scan.specs.Mailbox.{is_mailbox}
 use Rattle.mailx_vars.specs.Settings.{Settings, is_set}
+use Rattle.folder_change.specs.declared.change.Change.{Change}
 use Rattle.folder_change.specs.Apply.{Files, apply}
+use Rattle.folder_change.specs.Changes.{name_of}
 use Rattle.folder_change.specs.ListLaws.{list_of_file}
 use Rattle.quit_rules.specs.declared.open.Open.{Open}
 use Rattle.quit_rules.specs.declared.gathered.Gathered.{Gathered}
 use Rattle.quit_rules.specs.Gathering.{gathered_changes}
-use Rattle.quit_rules.specs.Plans.{messages_of, stamped_text, staying, boxed, quit_changes}
+use Rattle.quit_rules.specs.Plans.{messages_of, stamped_text, staying, boxed, leaving_changes, quit_changes}
 
 -- the texts of mbox once these went there: before those that stood there, or behind them with `append`
 abbrev pub with_boxed : Settings → List (List ℕ) → List (List ℕ) → List (List ℕ)
@@ -38,3 +40,12 @@ pub record AreInOrder (folder : Open) (vars : Settings) : Type 0 where
 
 abbrev pub BothAreInOrder : Type 0
 BothAreInOrder = (folder : Open) (vars : Settings) → AreInOrder folder vars
+
+-- a folder that isn't the system mailbox is left: nothing goes to mbox, so mbox isn't changed
+abbrev pub NothingIsBoxed : Type 0
+NothingIsBoxed = (folder : Open) (vars : Settings) → folder.system ≡ false → boxed folder vars ≡ []
+
+-- beside what was gathered its own file alone is changed, whatever file mbox is
+abbrev pub OnlyTheFolder : Type 0
+OnlyTheFolder = (folder : Open) (vars : Settings) (mbox : List ℕ) → folder.system ≡ false
+    → All (λ (change : Change). name_of change ≡ folder.name) (leaving_changes folder vars mbox)

@@ -1,12 +1,12 @@
 -- What counts as saved is in what is put into the file.
-use Rattle.std.specs.Prelude.{◌≡◌, ◌⊎◌, ◌-◌, ℕ, List, ◌++◌}
+use Rattle.std.specs.Prelude.{◌≡◌, ◌⊎◌, ◌+◌, ℕ, List, ◌++◌}
 use Rattle.std.specs.List.{Contains}
 use Rattle.std.specs.declared.result.Result.TheVariants.{Ok}
 use Rattle.quit_rules.specs.declared.gathered.What.{What}
 use Rattle.quit_rules.specs.declared.gathered.What.TheVariants.{Texts, Bytes}
 use Rattle.command_desk.specs.declared.desk.Desk.{Desk}
 use Rattle.command_desk.specs.declared.effects.Marking.{Marking}
-use Rattle.command_desk.specs.Desks.{message_text}
+use Rattle.command_desk.specs.Desks.{message_text, IsMessageOf}
 use Rattle.folder_commands.specs.declared.wanted.Filing.{Filing}
 use Rattle.folder_commands.specs.Saving.{body_line, copy, copy_by_author, save, save_by_author, write}
 
@@ -30,8 +30,8 @@ Files desk words filing =
     ⊎ ((copy_by_author desk words ≡ Ok filing)
     ⊎ (write desk words ≡ Ok filing))))
 
--- each message on which the command does an act, is in what it puts
+-- each act of the command is on a message of the desk, which has the number of its row and one more, and that message is in what the command puts
 abbrev pub MarkedIsPut : Type 0
 MarkedIsPut = (desk : Desk) (words : List (List ℕ)) (filing : Filing) (m : Marking)
     → Files desk words filing → Contains filing.effects.marks m
-    → (n : ℕ) × (m.row ≡ n - 1) × IsIn filing.put.what desk n
+    → (n : ℕ) × IsMessageOf desk.shown n × (n ≡ m.row + 1) × IsIn filing.put.what desk n

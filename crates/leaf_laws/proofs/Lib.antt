@@ -6,11 +6,3 @@ pub mod ShowLemmas
 pub mod ArgumentLemmas
 pub mod FlatLemmas
 pub mod AskLemmas
-pub mod RefuseLemmas
-pub mod HyphenLemmas
-pub mod TwiceLemmas
-pub mod UnknownLemmas
-pub mod OptionLemmas
-pub mod EmptyLemmas
-pub mod WantLemmas
-pub mod OperandLemmas

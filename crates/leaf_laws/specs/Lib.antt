@@ -5,4 +5,3 @@ pub mod Showing
 pub mod Arguments
 pub mod Lines
 pub mod Asking
-pub mod Refusing

@@ -4,7 +4,6 @@ ghost use Rattle.leaf_laws.specs.Asking.{ModesAreAsked, WantedIsAsked};
 ghost use Rattle.leaf_laws.specs.Cutting.{GoodPiecesAreCut};
 ghost use Rattle.leaf_laws.specs.Lines.{PageIsLines, SummaryIsALine};
 ghost use Rattle.leaf_laws.specs.Reaching.{AddedAreReached, GivenAreAdded, ReachedAreAdded};
-ghost use Rattle.leaf_laws.specs.Refusing.{AgainIsRefused, DashIsRefused, EmptyIsRefused, EmptyOperandIsRefused, EqualsIsRefused, HyphenIsRefused, LongIsRefused, MissingIsRefused, NoTextIsRefused, TryTwiceIsRefused, TwiceIsRefused, UnknownIsRefused, ValuedTwiceIsRefused};
 ghost use Rattle.leaf_laws.specs.Showing.{KeptAreShown};
 
 /// Laws of expansion. Nobody else is added: what is added was given, or aliases lead to it from there. Nobody is lost: a
@@ -55,30 +54,4 @@ pub fn summaries_are_lines()
 pub fn options_ask_for_one_mode()
     ensures modes { ModesAreAsked }
     ensures words { WantedIsAsked }
-{}
-
-/// Laws of words of the command line, before `--` and whatever stands beside them. An option whose value would be the next
-/// word is refused if there is none, and if that begins with `-`. A flag is refused that two words give, or one word twice,
-/// and so is an option with a value that two words give, `--try` too.
-pub fn some_words_are_refused()
-    ensures missing { MissingIsRefused }
-    ensures hyphen { HyphenIsRefused }
-    ensures twice { TwiceIsRefused }
-    ensures again { AgainIsRefused }
-    ensures valued { ValuedTwiceIsRefused }
-    ensures tries { TryTwiceIsRefused }
-{}
-
-/// Laws of single words of the command line. Before `--` and whatever stands beside it, a word is refused that has a letter of
-/// no option where that of one stands, or `--` with a name other than `try`; and so is an option's value in the same word that
-/// begins with `=`. `-` alone is refused wherever it stands, and so is a word that isn't UTF-8. An empty one is behind `--`, and
-/// before it unless it is the value of the option before it.
-pub fn single_words_are_refused()
-    ensures unknown { UnknownIsRefused }
-    ensures long { LongIsRefused }
-    ensures equals { EqualsIsRefused }
-    ensures dash { DashIsRefused }
-    ensures text { NoTextIsRefused }
-    ensures empty { EmptyIsRefused }
-    ensures operand { EmptyOperandIsRefused }
 {}

@@ -1,0 +1,9 @@
+pub mod DecisionLemmas
+pub mod ChangingLemmas
+pub mod BracketLemmas
+pub mod ProgramLemmas
+pub mod FrontLemmas
+pub mod DeliveryLemmas
+pub mod RunLemmas
+pub mod RowLemmas
+pub mod KeepingLemmas
