@@ -128,6 +128,15 @@ impl Answer {
         self.put_plain(b">");
     }
 
+    /// Puts texts, each with these bytes before it and these behind it.
+    pub fn put_texts(&mut self, before: &[u8], texts: &[Text], behind: &[u8]) {
+        for text in texts {
+            self.put(before);
+            self.put(text.bytes());
+            self.put(behind);
+        }
+    }
+
     /// Puts what a value is displayed as.
     pub fn put_shown<D: Display>(&mut self, value: &D) {
         match format!(in self.alloc; "{value}") {
@@ -144,6 +153,11 @@ impl Answer {
         }
     }
 
+    /// Puts what an error is displayed as.
+    pub fn put_error<E: Display + Drop>(&mut self, error: E) {
+        self.put_shown(&error);
+    }
+
     /// Puts a value, or `none`.
     pub fn put_found<D: Display + Drop>(&mut self, found: Option<D>) {
         match found {
@@ -156,7 +170,7 @@ impl Answer {
     pub fn put_made<E: Display + Drop>(&mut self, made: Result<Text, E>) {
         match made {
             Ok(text) => self.put(text.bytes()),
-            Err(error) => self.put_shown(&error),
+            Err(error) => self.put_error(error),
         }
     }
 

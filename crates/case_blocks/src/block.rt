@@ -17,14 +17,19 @@ const HEADS: [&str; 16] = [
     "child ", "edit ", "now ", "|", ":", "#",
 ];
 
-/// Whether a line tells a title, something of the disk or of the plan, or nothing.
-pub fn is_plain(line: &str) -> bool {
-    for head in HEADS {
-        if line.starts_with(head) {
+/// Whether a line begins with one of these heads.
+pub fn begins_with_any(line: &str, heads: &[&str]) -> bool {
+    for head in heads {
+        if line.starts_with(*head) {
             return true;
         }
     }
-    line.is_empty()
+    false
+}
+
+/// Whether a line tells a title, something of the disk or of the plan, or nothing.
+pub fn is_plain(line: &str) -> bool {
+    begins_with_any(line, &HEADS) || line.is_empty()
 }
 
 /// The first word, and what stands after the blank that follows it.

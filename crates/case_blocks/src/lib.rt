@@ -29,14 +29,18 @@
 
 mod answer;
 mod block;
+mod cuts;
 mod disks;
 mod escape;
 mod planned;
+mod run_lines;
 mod shown;
 
 pub use answer::Answer;
 pub use block::{Case, Tells, cut, is_case, is_plain, number, text_under, told, value};
-pub use disks::{host, view};
+pub use cuts::{Cut, count_cuts, cut_at};
+pub use disks::view;
 pub use escape::push_decoded;
-pub use planned::part;
+pub use planned::{failing, host, part};
+pub use run_lines::{pairs_of, put_unknown, words_of};
 pub use shown::{put_changes, put_disk};

@@ -61,7 +61,10 @@ pub fn put_changes(before: &DiskView, after: &DiskView, out: &mut Answer) {
 /// Puts what became of the disk of a host, and `lost` if memory was refused to it.
 pub fn put_disk(before: &DiskView, host: &MemHost, out: &mut Answer) {
     match host.view() {
-        Ok(after) => put_changes(before, &after, out),
+        Ok(after) => {
+            put_changes(before, &after, out);
+            drop(after);
+        }
         Err(Memory) => out.lack(),
     }
     if host.lost() {

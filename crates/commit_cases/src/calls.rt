@@ -4,10 +4,9 @@ ghost use Rattle.host_port.specs.Names.{IsFileName};
 use crate::commits;
 use crate::names::is_name;
 use crate::sending::put_sent;
-use case_blocks::{Answer, cut, number};
+use case_blocks::{Answer, cut, number, words_of};
 use host_memory::MemHost;
 use host_port::{ChildAnswer, ChildError, Host, LoadAnswer, LoadError};
-use mail_text::{Items, Text};
 
 fn done<E: Drop>(answer: Result<(), E>) -> &'static [u8] {
     match answer {
@@ -129,24 +128,12 @@ fn put_ran(answer: &ChildAnswer, out: &mut Answer) {
     }
 }
 
-/// Words as items.
-pub fn arguments(words: &str, out: &mut Answer) -> Items<Text> {
-    let mut args = Items::new(out.alloc());
-    for word in words.split(' ') {
-        if !word.is_empty() {
-            let arg = out.decoded(word);
-            out.note(args.push(arg));
-        }
-    }
-    args
-}
-
 fn put_child(host: &mut MemHost, rest: &str, out: &mut Answer) {
     let (program, rest) = cut(rest);
     let (input, words) = cut(rest);
     let program = out.decoded(program);
     let input = out.decoded(input);
-    let args = arguments(words, out);
+    let args = words_of(words, out);
     match host.child(out.alloc(), program.bytes(), args.items(), input.bytes()) {
         Ok(answer) => put_ran(&answer, out),
         Err(ChildError::Failed) => out.put_plain(b"failed"),

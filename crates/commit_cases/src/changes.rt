@@ -75,7 +75,9 @@ fn put_made(current: Option<&[u8]>, change: &Change, base: Text, out: &mut Answe
             out.put_plain(change_name(change));
             out.put_plain(b": ");
             let made = outcome(out.alloc(), current, change, Some(&base));
+            drop(base);
             put_outcome(&made, out);
+            drop(made);
         }
         Err(_) => out.put_plain(b"no folder"),
     }
@@ -95,8 +97,10 @@ pub fn put_change(line: &str, out: &mut Answer) {
     let change = change(kind, "box", texts, out);
     let base = out.decoded(base);
     if current == "-" {
-        return put_made(None, &change, base, out);
+        put_made(None, &change, base, out);
+    } else {
+        let current = out.decoded(current);
+        put_made(Some(current.bytes()), &change, base, out);
     }
-    let current = out.decoded(current);
-    put_made(Some(current.bytes()), &change, base, out);
+    drop(change);
 }

@@ -45,7 +45,10 @@ fn refusal(error: &RecoverError) -> &'static [u8] {
 pub fn put_recovered(host: &mut MemHost, out: &mut Answer) {
     match recover(out.alloc(), ACTOR, host) {
         Ok(found) => put_found(found, out),
-        Err(error) => out.put_plain(refusal(&error)),
+        Err(error) => {
+            out.put_plain(refusal(&error));
+            drop(error);
+        }
     }
 }
 
@@ -92,8 +95,14 @@ fn put_committed(
     }
     match commit(out.alloc(), ACTOR, 1, changes, Some(base), host) {
         Ok(()) => out.put_plain(b"done"),
-        Err(error) if short => out.put_plain(word(&error)),
-        Err(error) => out.put_shown(&error),
+        Err(error) => {
+            if short {
+                out.put_plain(word(&error));
+            } else {
+                out.put_shown(&error);
+            }
+            drop(error);
+        }
     }
 }
 
@@ -106,7 +115,10 @@ fn put_committed_over(
     out: &mut Answer,
 ) {
     match Folder::open(out.alloc(), base) {
-        Ok(base) => put_committed(host, changes, &base, short, out),
+        Ok(base) => {
+            put_committed(host, changes, &base, short, out);
+            drop(base);
+        }
         Err(_) => out.put_plain(b"no folder"),
     }
 }
@@ -119,6 +131,7 @@ pub fn put_additions(host: &mut MemHost, name: &str, bytes: &str, times: u32, ou
         out.note(list.push(change));
     }
     put_committed_over(host, list.items(), Text::new(out.alloc()), true, out);
+    drop(list);
 }
 
 /// Adds a text to a file.
@@ -127,12 +140,20 @@ pub fn put_added(host: &mut MemHost, rest: &str, out: &mut Answer) {
     put_additions(host, name, bytes, 1, out);
 }
 
+// One change.
+fn changes_of(change: Change, out: &mut Answer) -> Items<Change> {
+    let mut list = Items::new(out.alloc());
+    out.note(list.push(change));
+    list
+}
+
 /// Leaves a file without a message, which was read before as this text.
 pub fn put_emptied(host: &mut MemHost, rest: &str, out: &mut Answer) {
     let (name, base) = cut(rest);
-    let change = change("keep", name, "", out);
+    let list = changes_of(change("keep", name, "", out), out);
     let base = out.decoded(base);
-    put_committed_over(host, &[change], base, true, out);
+    put_committed_over(host, list.items(), base, true, out);
+    drop(list);
 }
 
 /// Commits the changes of a line; after a slash stands the text that the folder of rewrites was read from.
@@ -141,6 +162,7 @@ pub fn put_commit(host: &mut MemHost, line: &str, out: &mut Answer) {
     let list = changes(line, out);
     let base = out.decoded(base);
     put_committed_over(host, list.items(), base, false, out);
+    drop(list);
 }
 
 /// Commits the changes of a line that is written with escapes as a whole.
@@ -154,9 +176,6 @@ pub fn put_many(host: &mut MemHost, escaped: &str, out: &mut Answer) {
 
 /// The words of an error.
 pub fn put_words(out: &mut Answer) {
-    let error = CommitError::TooLarge {
-        name: out.decoded("/h/a"),
-        length: 5,
-    };
-    out.put_shown(&error);
+    let name = out.decoded("/h/a");
+    out.put_error(CommitError::TooLarge { name, length: 5 });
 }

@@ -26,7 +26,11 @@ fn writes_too_large(line: &str, out: &mut Answer) -> bool {
         always: "",
     };
     match host(case, out) {
-        Ok(mut host) => is_too_large(out.alloc(), &mut host),
+        Ok(mut host) => {
+            let is = is_too_large(out.alloc(), &mut host);
+            drop(host);
+            is
+        }
         Err(Memory) => false,
     }
 }
@@ -40,6 +44,7 @@ fn adds_often(out: &mut Answer) -> bool {
     };
     if let Ok(mut host) = host(case, out) {
         put_additions(&mut host, "a\\*3900;", "x", 20, &mut said);
+        drop(host);
     }
     said.bytes() == b"done".as_slice()
 }
@@ -55,10 +60,16 @@ fn is_kept(alloc: Global, bytes: &[u8], change: &Change, base: &Folder) -> bool 
 fn keeps_many(out: &mut Answer) -> bool {
     let bytes = out.decoded("From \\n\\n\\*1000001;");
     let change = change("drop", "box", "", out);
-    match Folder::open(out.alloc(), Text::new(out.alloc())) {
-        Ok(base) => is_kept(out.alloc(), bytes.bytes(), &change, &base),
+    let is = match Folder::open(out.alloc(), Text::new(out.alloc())) {
+        Ok(base) => {
+            let is = is_kept(out.alloc(), bytes.bytes(), &change, &base);
+            drop(base);
+            is
+        }
         Err(_) => false,
-    }
+    };
+    drop(change);
+    is
 }
 
 // A name of 4,000 bytes is lawful, and one of 4,001 is not; the name of a staged file is 19 bytes longer.

@@ -71,7 +71,11 @@ fn is_read_back(alloc: Global, bytes: &[u8], value: &Record) -> bool {
         }
     }
     match read(alloc, bytes) {
-        Ok(found) => same(&found, value),
+        Ok(found) => {
+            let is = same(&found, value);
+            drop(found);
+            is
+        }
         Err(_) => false,
     }
 }
@@ -112,17 +116,20 @@ pub fn put_written(line: &str, out: &mut Answer) {
     let (word, rest) = cut(line);
     let (stamp, names) = cut(rest);
     let (token, moment) = token_and_moment(stamp);
+    let entries = entries(names, out);
+    let phase = if word == "go" {
+        Phase::Go
+    } else {
+        Phase::Prepare
+    };
     let value = Record {
-        phase: if word == "go" {
-            Phase::Go
-        } else {
-            Phase::Prepare
-        },
+        phase,
         token,
         moment,
-        entries: entries(names, out),
+        entries,
     };
     put_record(&value, out);
+    drop(value);
 }
 
 // The text with the first such part replaced, if there is one: whether it is a record.

@@ -80,9 +80,13 @@ impl Tells for Script {
         if is_case(case) {
             let start = view(case, out);
             match host(case, out) {
-                Ok(mut host) => put_script(case, &mut host, &start, out),
+                Ok(mut host) => {
+                    put_script(case, &mut host, &start, out);
+                    drop(host);
+                }
                 Err(Memory) => out.lack(),
             }
+            drop(start);
         }
     }
 }

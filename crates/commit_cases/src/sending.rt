@@ -1,6 +1,5 @@
 // Mail that is sent.
-use crate::calls::arguments;
-use case_blocks::{Answer, cut};
+use case_blocks::{Answer, cut, words_of};
 use host_memory::MemHost;
 use host_port::Event;
 use mail_text::{Memory, Text};
@@ -36,7 +35,10 @@ fn put_answer(answer: Result<Text, SendError>, out: &mut Answer) {
             out.put_plain(b"sent ");
             out.put(output.bytes());
         }
-        Err(error) => put_error(&error, out),
+        Err(error) => {
+            put_error(&error, out);
+            drop(error);
+        }
     }
 }
 
@@ -46,19 +48,20 @@ pub fn put_sent(host: &mut MemHost, rest: &str, out: &mut Answer) {
     let (message, words) = cut(rest);
     let value = out.decoded(sender);
     let message = out.decoded(message);
-    let names = arguments(words, out);
+    let names = words_of(words, out);
     match vars_with(out.alloc(), sender, value.bytes()) {
-        Ok(vars) => put_answer(
-            send(out.alloc(), &vars, names.items(), message.bytes(), host),
-            out,
-        ),
+        Ok(vars) => {
+            let answer = send(out.alloc(), &vars, names.items(), message.bytes(), host);
+            drop(vars);
+            put_answer(answer, out);
+        }
         Err(Memory) => out.lack(),
     }
 }
 
 /// Puts whether mail can be sent to names, or why not.
 pub fn put_sendable(words: &str, out: &mut Answer) {
-    let names = arguments(words, out);
+    let names = words_of(words, out);
     match names_fault(out.alloc(), names.items()) {
         Ok(None) => out.put_plain(b"yes"),
         Ok(Some(NamesFault::NoRecipients)) => out.put_plain(b"none"),

@@ -20,7 +20,10 @@ pub fn put(case: &[Text], out: &mut Answer) {
 // `[NAME]LOCAL+REST` for each address, or the number of the first bad piece.
 fn put_list(value: &[u8], out: &mut Answer) {
     match read_list(out.alloc(), value) {
-        Ok(list) => put_addresses(&list, out),
+        Ok(list) => {
+            put_addresses(&list, out);
+            drop(list);
+        }
         Err(AddressError::Syntax { at }) => {
             out.put(b"bad ");
             out.put_shown(&at);

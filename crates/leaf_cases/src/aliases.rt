@@ -9,7 +9,10 @@ pub fn put(case: &[Text], out: &mut Answer) {
         return put_once(words(case, 2), out);
     }
     match Aliases::new(out.alloc()) {
-        Ok(mut aliases) => put_with(&mut aliases, case, out),
+        Ok(mut aliases) => {
+            put_with(&mut aliases, case, out);
+            drop(aliases);
+        }
         Err(Memory) => out.put_bad(),
     }
 }
@@ -26,12 +29,21 @@ fn put_with(aliases: &mut Aliases, case: &[Text], out: &mut Answer) {
     }
 }
 
-// What each step answers, with `;` after it, and then the aliases that they leave, as they are listed.
-fn put_done(aliases: &mut Aliases, steps: &str, out: &mut Answer) {
+// What each step answers, with `;` after it. Each step is the words of a definition if `defines` is set.
+fn put_steps(aliases: &mut Aliases, steps: &str, defines: bool, out: &mut Answer) {
     for step in steps.split(';') {
-        put_step(aliases, step, out);
-        out.put(b";");
+        if defines {
+            put_definition(aliases, step, out);
+        } else {
+            put_step(aliases, step, out);
+            out.put(b";");
+        }
     }
+}
+
+// What each step answers, and then the aliases that they leave, as they are listed.
+fn put_done(aliases: &mut Aliases, steps: &str, out: &mut Answer) {
+    put_steps(aliases, steps, false, out);
     put_text(aliases.lines(out.alloc()), out);
 }
 
@@ -54,7 +66,7 @@ fn put_step(aliases: &mut Aliases, step: &str, out: &mut Answer) {
         ("remove-all", names) => aliases.remove_all(names),
         ("line", [name]) => put_text(aliases.line(out.alloc(), name.bytes()), out),
         ("members", [name]) => match aliases.members(name.bytes()) {
-            Some(members) => put_names(members, out),
+            Some(members) => out.put_texts(b" ", members, b""),
             None => out.put(b"none"),
         },
         ("refuses", to) => out.put_found(aliases.refuses(to)),
@@ -65,15 +77,15 @@ fn put_step(aliases: &mut Aliases, step: &str, out: &mut Answer) {
 fn put_defined(aliases: &mut Aliases, name: &Text, to: &[Text], out: &mut Answer) {
     match aliases.define(name.bytes(), to) {
         Ok(()) => out.put(b"ok"),
-        Err(error) => out.put_shown(&error),
+        Err(error) => out.put_error(error),
     }
 }
 
-// Names, each after a space.
-fn put_names(names: &[Text], out: &mut Answer) {
-    for name in names {
-        out.put(b" ");
-        out.put(name.bytes());
+// Defines an alias, if there is a name.
+fn put_definition(aliases: &mut Aliases, words: &str, out: &mut Answer) {
+    if let [name, to @ ..] = parts(words, ' ', out).items() {
+        put_defined(aliases, name, to, out);
+        out.put(b";");
     }
 }
 
@@ -83,12 +95,7 @@ fn put_expanded(aliases: &mut Aliases, case: &[Text], out: &mut Answer) {
         user: out.copied(field(case, 2)),
         alternates: parts(words(case, 3), ' ', out),
     };
-    for line in words(case, 5).split(';') {
-        if let [name, to @ ..] = parts(line, ' ', out).items() {
-            put_defined(aliases, name, to, out);
-            out.put(b";");
-        }
-    }
+    put_steps(aliases, words(case, 5), true, out);
     let names = parts(words(case, 6), ' ', out);
     put_expansion(
         aliases.expand(names.items(), &own, words(case, 4) == "metoo"),
@@ -101,10 +108,10 @@ fn put_expansion(expansion: Result<Vec<Text>, ExpandError>, out: &mut Answer) {
         Ok(names) => {
             out.put_shown(&names.len());
             if names.len() < 10 {
-                put_names(&names, out);
+                out.put_texts(b" ", &names, b"");
             }
         }
-        Err(error) => out.put_shown(&error),
+        Err(error) => out.put_error(error),
     }
 }
 
@@ -117,7 +124,7 @@ fn put_chain(aliases: &mut Aliases, count: u32, closes: bool, out: &mut Answer) 
         let name = numbered(n, out);
         let to = numbered(if last { 0 } else { next }, out);
         if let Err(error) = aliases.define(name.bytes(), &[to]) {
-            out.put_shown(&error);
+            out.put_error(error);
         }
     }
     put_first(aliases, out);
@@ -160,7 +167,7 @@ fn numbered(n: u32, out: &mut Answer) -> Text {
 fn put_once(names: &str, out: &mut Answer) {
     let names = parts(names, ' ', out);
     match each_once(out.alloc(), names.items()) {
-        Ok(once) => put_names(once.items(), out),
+        Ok(once) => out.put_texts(b" ", once.items(), b""),
         Err(Memory) => out.lack(),
     }
 }

@@ -11,8 +11,11 @@ pub fn put(case: &[Text], out: &mut Answer) {
         _ => &[],
     };
     match read_words(out.alloc(), words) {
-        Ok(wanted) => put_wanted(&wanted, out),
-        Err(error) => out.put_shown(&error),
+        Ok(wanted) => {
+            put_wanted(&wanted, out);
+            drop(wanted);
+        }
+        Err(error) => out.put_error(error),
     }
 }
 
@@ -28,10 +31,7 @@ fn put_wanted(wanted: &Wanted, out: &mut Answer) {
     }
     put_flags(&wanted.options, out);
     put_values(&wanted.options, out);
-    for operand in wanted.options.operands.items() {
-        out.put_plain(b" ");
-        out.put_in_angles(operand.bytes());
-    }
+    out.put_texts(b" <", wanted.options.operands.items(), b">");
 }
 
 fn put_flag(name: &[u8], given: bool, out: &mut Answer) {

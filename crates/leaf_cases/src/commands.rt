@@ -2,7 +2,7 @@
 use crate::case::{field, place, words};
 use case_blocks::Answer;
 use line_words::{
-    Command, CommandLine, LineError, command_name, command_of, read_line, whole_name,
+    Command, CommandLine, LineError, command_in, command_name, command_of, read_line, whole_name,
 };
 use mail_text::Text;
 
@@ -10,6 +10,7 @@ pub fn put(case: &[Text], out: &mut Answer) {
     let text = field(case, 2);
     match words(case, 1) {
         "line" => put_line(text, out),
+        "named" => put_command(command_in(text), out),
         "spelled" => put_spelled(text, field(case, 3), out),
         "name at" => out.put(command_name(place(case, 2)).unwrap_or(b"none")),
         "whole name" => out.put(whole_name(text).unwrap_or(b"none")),
@@ -22,8 +23,11 @@ pub fn put(case: &[Text], out: &mut Answer) {
 // isn't.
 fn put_line(text: &[u8], out: &mut Answer) {
     match read_line(out.alloc(), text) {
-        Ok(line) => put_read(&line, out),
-        Err(error) => out.put_shown(&error),
+        Ok(line) => {
+            put_read(&line, out);
+            drop(line);
+        }
+        Err(error) => out.put_error(error),
     }
 }
 
@@ -32,10 +36,7 @@ fn put_read(line: &CommandLine, out: &mut Answer) {
     out.put(b" ");
     out.put_in_angles(line.word.bytes());
     out.put(b" ");
-    for word in line.words.items() {
-        out.put(word.bytes());
-        out.put(b";");
-    }
+    out.put_texts(b"", line.words.items(), b";");
     out.put(b" ");
     out.put_in_angles(line.rest.bytes());
 }

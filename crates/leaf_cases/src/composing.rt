@@ -27,7 +27,10 @@ use std::str;
 
 pub fn put(vars: &Vars, messages: &[Text], case: &[Text], out: &mut Out) {
     match shown_of(messages, &[], &[], number(case, 2), out) {
-        Ok(Some(shown)) => put_of(vars, &shown, messages, case, out),
+        Ok(Some(shown)) => {
+            put_of(vars, &shown, messages, case, out);
+            drop(shown);
+        }
         Ok(None) => out.put_bad(),
         Err(Memory) => out.lack(),
     }
@@ -52,7 +55,10 @@ fn put_of(vars: &Vars, shown: &Shown, messages: &[Text], case: &[Text], out: &mu
 {
     let bytes = folder_bytes(messages, out);
     match Folder::open(out.alloc(), bytes) {
-        Ok(folder) => put_with(vars, shown, &folder, case, out),
+        Ok(folder) => {
+            put_with(vars, shown, &folder, case, out);
+            drop(folder);
+        }
         Err(_) => out.put_bad(),
     }
 }
@@ -77,7 +83,10 @@ fn put_with(vars: &Vars, shown: &Shown, folder: &Folder, case: &[Text], out: &mu
     requires { IsShown shown.now }
 {
     match places(out) {
-        Some(places) => put_in(vars, &places, shown, folder, case, out),
+        Some(places) => {
+            put_in(vars, &places, shown, folder, case, out);
+            drop(places);
+        }
         None => out.put_bad(),
     }
 }
@@ -151,6 +160,7 @@ fn put_steps(view: &ComposeView<'_>, case: &[Text], out: &mut Out)
         put_step(&mut compose, view, step.bytes(), out);
         out.put(b";");
     }
+    drop(compose);
 }
 
 fn put_step(compose: &mut Compose, view: &ComposeView<'_>, step: &[u8], out: &mut Out)
@@ -185,11 +195,13 @@ fn put_line(compose: &mut Compose, view: &ComposeView<'_>, line: &[u8], out: &mu
 }
 
 fn put_answer(compose: &mut Compose, view: &ComposeView<'_>, answer: Answer, out: &mut Out) {
-    if !compose.waits_for(&answer) {
-        return out.put(b"waits not");
+    if compose.waits_for(&answer) {
+        let need = compose.answer(answer, view);
+        put_need(need, out);
+    } else {
+        drop(answer);
+        out.put(b"waits not");
     }
-    let need = compose.answer(answer, view);
-    put_need(need, out);
 }
 
 // The number in front of a blank, and what follows it.
@@ -238,28 +250,36 @@ fn put_child(
 
 fn put_need(need: Result<Need, ComposeError>, out: &mut Out) {
     match need {
-        Ok(Need::More) => out.put(b"More"),
-        Ok(Need::Say(bytes)) => put_named(b"Say", &bytes, out),
-        Ok(Need::Load(name)) => put_named(b"Load", &name, out),
-        Ok(Need::Dead) => out.put(b"Dead"),
-        Ok(Need::Child { command, input }) => {
-            put_named(b"Child", &command, out);
-            out.put_in_angles(input.bytes());
+        Ok(need) => {
+            put_needed(&need, out);
+            drop(need);
         }
-        Ok(Need::Edit { command, text }) => {
-            put_named(b"Edit", &command, out);
-            out.put_in_angles(text.bytes());
+        Err(error) => {
+            put_error(&error, out);
+            drop(error);
         }
-        Ok(Need::Command(line)) => put_named(b"Command", &line, out),
-        Ok(Need::Put { name, bytes }) => {
-            put_named(b"Put", &name, out);
-            out.put_in_angles(bytes.bytes());
-        }
-        Ok(Need::Done) => out.put(b"Done"),
-        Ok(Need::Quit) => out.put(b"Quit"),
-        Ok(Need::Drop) => out.put(b"Drop"),
-        Err(error) => put_error(&error, out),
     }
+}
+
+fn put_needed(need: &Need, out: &mut Out) {
+    match need {
+        Need::More => out.put(b"More"),
+        Need::Say(bytes) => put_named(b"Say", bytes, out),
+        Need::Load(name) => put_named(b"Load", name, out),
+        Need::Dead => out.put(b"Dead"),
+        Need::Child { command, input } => put_two(b"Child", command, input, out),
+        Need::Edit { command, text } => put_two(b"Edit", command, text, out),
+        Need::Command(line) => put_named(b"Command", line, out),
+        Need::Put { name, bytes } => put_two(b"Put", name, bytes, out),
+        Need::Done => out.put(b"Done"),
+        Need::Quit => out.put(b"Quit"),
+        Need::Drop => out.put(b"Drop"),
+    }
+}
+
+fn put_two(name: &[u8], first: &Text, second: &Text, out: &mut Out) {
+    put_named(name, first, out);
+    out.put_in_angles(second.bytes());
 }
 
 fn put_named(name: &[u8], bytes: &Text, out: &mut Out) {
@@ -294,9 +314,6 @@ fn put_draft(draft: &Draft, out: &mut Out) {
 
 fn put_names(list: &[u8], names: &[Text], out: &mut Out) {
     out.put(list);
-    for name in names {
-        out.put(name.bytes());
-        out.put(b",");
-    }
+    out.put_texts(b"", names, b",");
     out.put(b" ");
 }

@@ -20,7 +20,7 @@ pub fn put(case: &[Text], out: &mut Answer) {
                 out.put(b" ");
                 out.put_shown(&conditions.depth());
             }
-            Err(error) => out.put_shown(&error),
+            Err(error) => out.put_error(error),
         }
         out.put(b";");
     }

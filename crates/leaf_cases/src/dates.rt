@@ -78,7 +78,7 @@ fn put_at(case: &[Text], offset: bool, out: &mut Answer) {
                 moment.seconds
             });
         }
-        Err(error) => out.put_shown(&error),
+        Err(error) => out.put_error(error),
     }
 }
 

@@ -39,9 +39,13 @@ fn put_reply(case: &[Text], out: &mut Answer) {
         &own,
         metoo,
     ) {
-        Ok(draft) => put_parts(&draft, out),
-        Err(error) => out.put_shown(&error),
+        Ok(draft) => {
+            put_parts(&draft, out);
+            drop(draft);
+        }
+        Err(error) => out.put_error(error),
     }
+    drop(own);
 }
 
 // Who is answered.
@@ -66,6 +70,7 @@ fn put_texts(case: &[Text], out: &mut Answer) {
         "flat" => out.put_made(flat(out.alloc(), field(case, 2))),
         _ => out.put_bad(),
     }
+    drop(draft);
 }
 
 // The draft that a case has, its names and ids with `;` between them.
@@ -85,7 +90,10 @@ fn draft_of(case: &[Text], out: &mut Answer) -> Draft {
 // The draft with a space for each line feed of its parts but the body.
 fn put_flattened(draft: &Draft, out: &mut Answer) {
     match flattened(out.alloc(), draft) {
-        Ok(draft) => put_parts(&draft, out),
+        Ok(draft) => {
+            put_parts(&draft, out);
+            drop(draft);
+        }
         Err(Memory) => out.lack(),
     }
 }
@@ -108,8 +116,6 @@ fn put_text(text: &Text, out: &mut Answer) {
 }
 
 fn put_list(texts: &[Text], out: &mut Answer) {
-    for text in texts {
-        out.put_in_angles(text.bytes());
-    }
+    out.put_texts(b"<", texts, b">");
     out.put(b";");
 }

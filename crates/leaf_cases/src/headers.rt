@@ -1,12 +1,15 @@
 // Cases of headers.
 use crate::case::{field, words};
 use case_blocks::Answer;
-use mail_headers::{EntryRef, Header, unfold_value, unfolded};
+use mail_headers::{EntryRef, FieldRef, Header, unfold_value, unfolded};
 use mail_text::{Memory, Text};
 
 pub fn put(case: &[Text], out: &mut Answer) {
     match Header::read(out.alloc(), field(case, 2)) {
-        Ok(header) => put_of(&header, case, out),
+        Ok(header) => {
+            put_of(&header, case, out);
+            drop(header);
+        }
         Err(Memory) => out.lack(),
     }
 }
@@ -19,8 +22,8 @@ fn put_of(header: &Header<'_>, case: &[Text], out: &mut Answer) {
             None => out.put(b"none"),
         },
         "fields" => put_field_count(header, out),
-        "unfolded" => put_unfolded(header, out),
-        "value" => put_values(header, out),
+        "unfolded" => put_values(header, true, out),
+        "value" => put_values(header, false, out),
         _ => out.put_bad(),
     }
 }
@@ -69,21 +72,28 @@ fn put_field_count(header: &Header<'_>, out: &mut Answer) {
     out.put_shown(&longer);
 }
 
-// The unfolded value of each field.
-fn put_unfolded(header: &Header<'_>, out: &mut Answer) {
-    for field in header.fields() {
-        out.put(b"<");
-        out.put_made(unfolded(out.alloc(), field));
-        out.put(b">");
+// The unfolded value of a field as a text of its own.
+fn put_unfolded(field: FieldRef<'_>, out: &mut Answer) {
+    out.put(b"<");
+    out.put_made(unfolded(out.alloc(), field));
+    out.put(b">");
+}
+
+// The unfolded value of a field, of which one without a line feed is a part of the header.
+fn put_value(field: FieldRef<'_>, out: &mut Answer) {
+    match unfold_value(out.alloc(), field) {
+        Ok(value) => out.put_in_angles(value.bytes()),
+        Err(Memory) => out.lack(),
     }
 }
 
-// The unfolded value of each field, of which one without a line feed is a part of the header.
-fn put_values(header: &Header<'_>, out: &mut Answer) {
+// The unfolded value of each field, as a text of its own if `whole` is set.
+fn put_values(header: &Header<'_>, whole: bool, out: &mut Answer) {
     for field in header.fields() {
-        match unfold_value(out.alloc(), field) {
-            Ok(value) => out.put_in_angles(value.bytes()),
-            Err(Memory) => out.lack(),
+        if whole {
+            put_unfolded(field, out);
+        } else {
+            put_value(field, out);
         }
     }
 }

@@ -19,15 +19,22 @@ pub fn put(vars: &Vars, case: &[Text], out: &mut Answer) {
 
 fn put_change(change: Result<Option<Change>, Memory>, out: &mut Answer) {
     match change {
-        Ok(Some(Change::Add { name, texts })) => {
-            out.put(b"add ");
-            out.put(name.bytes());
-            for text in texts.items() {
-                out.put_in_angles(text.bytes());
-            }
+        Ok(Some(change)) => {
+            put_made(&change, out);
+            drop(change);
         }
-        Ok(Some(_)) => out.put(b"another"),
         Ok(None) => out.put(b"none"),
         Err(Memory) => out.lack(),
+    }
+}
+
+fn put_made(change: &Change, out: &mut Answer) {
+    match change {
+        Change::Add { name, texts } => {
+            out.put(b"add ");
+            out.put(name.bytes());
+            out.put_texts(b"<", texts.items(), b">");
+        }
+        _ => out.put(b"another"),
     }
 }

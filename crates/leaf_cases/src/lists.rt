@@ -28,7 +28,10 @@ pub fn put(messages: &[Text], case: &[Text], out: &mut Answer) {
 fn put_in_view(messages: &[Text], case: &[Text], out: &mut Answer) {
     let turns = numbers(words(case, 2), out);
     match shown_of(messages, turns.items(), &[], number(case, 3), out) {
-        Ok(Some(shown)) => put_of(&shown, messages, case, out),
+        Ok(Some(shown)) => {
+            put_of(&shown, messages, case, out);
+            drop(shown);
+        }
         Ok(None) => out.put_bad(),
         Err(Memory) => out.lack(),
     }
@@ -88,9 +91,15 @@ fn put_in_folder(
     let bytes = folder_bytes(messages, out);
     let alloc = out.alloc();
     match Folder::open(alloc, bytes) {
-        Ok(folder) => put_selected(shown, &folder, purpose, words, out),
+        Ok(folder) => {
+            put_selected(shown, &folder, purpose, words, out);
+            drop(folder);
+        }
         Err(_) => match Folder::open(alloc, Text::new(alloc)) {
-            Ok(folder) => put_selected(shown, &folder, purpose, words, out),
+            Ok(folder) => {
+                put_selected(shown, &folder, purpose, words, out);
+                drop(folder);
+            }
             Err(_) => out.put_bad(),
         },
     }
@@ -102,10 +111,11 @@ fn put_selected(shown: &Shown, folder: &Folder, purpose: Purpose, words: &[Text]
 {
     let list = match read_list(out.alloc(), words) {
         Ok(list) => list,
-        Err(error) => return out.put_shown(&error),
+        Err(error) => return out.put_error(error),
     };
     match select(out.alloc(), &list, shown, folder, purpose) {
         Ok(found) => out.put_numbers(found.as_slice()),
-        Err(error) => out.put_shown(&error),
+        Err(error) => out.put_error(error),
     }
+    drop(list);
 }

@@ -16,8 +16,9 @@ pub fn put(case: &[Text], out: &mut Answer) {
     for k in 0..macros.count() {
         out.put(b" ");
         out.put(macros.name(k).unwrap_or(b"?"));
-        put_lines(macros.body_at(k).unwrap_or(&[]), out);
+        out.put_texts(b"<", macros.body_at(k).unwrap_or(&[]), b">");
     }
+    drop(macros);
 }
 
 // Does a step: its word, and then the name or the line that it takes.
@@ -33,7 +34,7 @@ fn put_step(macros: &mut Macros, step: &str, out: &mut Answer) {
         },
         "undef" => out.put_flag(macros.undef(rest)),
         "body" => match macros.body(rest) {
-            Some(lines) => put_lines(lines, out),
+            Some(lines) => out.put_texts(b"<", lines, b">"),
             None => out.put(b"none"),
         },
         _ => put_inside(macros, word, rest, out),
@@ -73,15 +74,6 @@ fn fill(macros: &mut Macros, count: u64) -> Result<(), MacroError> {
 fn put_done(done: Result<(), MacroError>, out: &mut Answer) {
     match done {
         Ok(()) => out.put(b"ok"),
-        Err(error) => out.put_shown(&error),
-    }
-}
-
-// Lines, each between `<` and `>`.
-fn put_lines(lines: &[Text], out: &mut Answer) {
-    for line in lines {
-        out.put(b"<");
-        out.put(line.bytes());
-        out.put(b">");
+        Err(error) => out.put_error(error),
     }
 }

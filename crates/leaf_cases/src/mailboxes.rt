@@ -29,18 +29,26 @@ pub fn folder_of(alloc: Global, bytes: &[u8]) -> Result<Folder, ScanError> {
 // The lengths of the texts of bytes by a folder and one after the other, or why there is none.
 fn put_texts(bytes: &[u8], out: &mut Answer) {
     match folder_of(out.alloc(), bytes) {
-        Ok(folder) => put_lengths(&folder, bytes, out),
+        Ok(folder) => {
+            put_lengths(&folder, bytes, out);
+            drop(folder);
+        }
         Err(error) => {
             out.put(b" ");
-            out.put_shown(&error);
+            out.put_error(error);
         }
     }
 }
 
-fn put_lengths(folder: &Folder, bytes: &[u8], out: &mut Answer) {
+// The lengths of the texts of a folder.
+fn put_each_length(folder: &Folder, out: &mut Answer) {
     for k in 0..folder.count() {
         put_length(out, folder.message(k).text());
     }
+}
+
+fn put_lengths(folder: &Folder, bytes: &[u8], out: &mut Answer) {
+    put_each_length(folder, out);
     out.put(b":");
     if is_mailbox(bytes) {
         let mut texts = Texts::of(bytes);
@@ -60,8 +68,11 @@ fn put_length(out: &mut Answer, text: &[u8]) {
 // How many messages a folder has, or why it has none.
 fn put_count(bytes: &[u8], out: &mut Answer) {
     match folder_of(out.alloc(), bytes) {
-        Ok(folder) => out.put_shown(&folder.count()),
-        Err(error) => out.put_shown(&error),
+        Ok(folder) => {
+            out.put_shown(&folder.count());
+            drop(folder);
+        }
+        Err(error) => out.put_error(error),
     }
 }
 
@@ -70,7 +81,7 @@ fn put_count(bytes: &[u8], out: &mut Answer) {
 fn put_growth(bytes: &[u8], tail: &[u8], lengths: bool, out: &mut Answer) {
     match folder_of(out.alloc(), bytes) {
         Ok(folder) => put_grown(folder, tail, lengths, out),
-        Err(error) => out.put_shown(&error),
+        Err(error) => out.put_error(error),
     }
 }
 
@@ -80,17 +91,16 @@ fn put_grown(folder: Folder, tail: &[u8], lengths: bool, out: &mut Answer) {
     out.put(b", ");
     match folder.grow(tail) {
         Ok(came) => out.put_shown(&came),
-        Err(error) => out.put_shown(&error),
+        Err(error) => out.put_error(error),
     }
     if lengths {
         out.put(b":");
-        for k in 0..folder.count() {
-            put_length(out, folder.message(k).text());
-        }
+        put_each_length(&folder, out);
     } else {
         out.put(b", ");
         out.put_shown(&folder.count());
     }
     out.put(b" of ");
     out.put_shown(&folder.bytes().len());
+    drop(folder);
 }

@@ -100,7 +100,10 @@ fn put_lines(kept: &mut Kept, text: &str, out: &mut Answer) {
 fn answers(alloc: Global, text: &str) -> Answer {
     let mut out = Answer::new(alloc);
     match Kept::new(alloc) {
-        Ok(mut kept) => put_lines(&mut kept, text, &mut out),
+        Ok(mut kept) => {
+            put_lines(&mut kept, text, &mut out);
+            drop(kept);
+        }
         Err(Memory) => out.lack(),
     }
     out

@@ -24,8 +24,9 @@ pub fn put(vars: &Vars, case: &[Text], out: &mut Answer) {
                 marks: marks(words(case, 3), out),
             };
             put_open(&open, vars, case, out);
+            drop(open);
         }
-        Err(error) => out.put_shown(&error),
+        Err(error) => out.put_error(error),
     }
 }
 
@@ -44,6 +45,7 @@ fn put_open(opened: &Open, vars: &Vars, case: &[Text], out: &mut Answer) {
     if opened.marks.items().len() == opened.folder.count() {
         let gathering = gathering(case, out);
         put_quit(opened, vars, gathering.items(), out);
+        drop(gathering);
     } else {
         out.put_bad();
     }
@@ -79,7 +81,10 @@ fn put_quit(opened: &Open, vars: &Vars, gathered: &[Gathered], out: &mut Answer)
     out.put(b" ");
     out.put_shown(&boxed(opened, vars));
     match quit_changes(out.alloc(), opened, vars, b"mbox", gathered) {
-        Ok(changes) => put_changes(&changes, out),
+        Ok(changes) => {
+            put_changes(&changes, out);
+            drop(changes);
+        }
         Err(Memory) => out.lack(),
     }
 }
@@ -107,7 +112,5 @@ fn put_changes(changes: &[Change], out: &mut Answer) {
 fn put_change(kind: &[u8], name: &Text, texts: &Items<Text>, out: &mut Answer) {
     out.put(kind);
     out.put(name.bytes());
-    for text in texts.items() {
-        out.put_in_angles(text.bytes());
-    }
+    out.put_texts(b"<", texts.items(), b">");
 }

@@ -8,7 +8,10 @@ use message_state::row_of;
 
 pub fn put(case: &[Text], out: &mut Answer) {
     match read_criterion(out.alloc(), field(case, 2)) {
-        Ok(criterion) => put_of(&criterion, case, out),
+        Ok(criterion) => {
+            put_of(&criterion, case, out);
+            drop(criterion);
+        }
         Err(SearchError::Syntax) => out.put(b"none"),
         Err(SearchError::Memory) => out.lack(),
     }
@@ -29,6 +32,7 @@ fn put_match(criterion: &Criterion, case: &[Text], out: &mut Answer) {
         return out.lack();
     };
     let facts = facts_of(words(case, 3), row.moment);
+    drop(row);
     match matches(out.alloc(), criterion, text, &facts) {
         Ok(held) => out.put_flag(held),
         Err(_) => out.lack(),

@@ -34,7 +34,10 @@ fn put_in_view(messages: &[Text], case: &[Text], out: &mut Answer) {
         number(case, 4),
         out,
     ) {
-        Ok(Some(shown)) => put_of(&shown, place(case, 5), case, out),
+        Ok(Some(shown)) => {
+            put_of(&shown, place(case, 5), case, out);
+            drop(shown);
+        }
         Ok(None) => out.put_bad(),
         Err(Memory) => out.lack(),
     }
@@ -103,10 +106,7 @@ fn name_fields(sets: &mut FieldSets, names: &str, retained: bool, out: &mut Answ
 
 // Names, each ended by a line feed, and a dot.
 fn put_names(out: &mut Answer, names: &[Text]) {
-    for name in names {
-        out.put(name.bytes());
-        out.put(b"\n");
-    }
+    out.put_texts(b"", names, b"\n");
     out.put(b".");
 }
 
@@ -124,6 +124,7 @@ fn put_told(case: &[Text], names: bool, out: &mut Answer) {
     for name in lines(field(case, 5)) {
         out.put(if sets.keeps(name) { b"+" } else { b"-" });
     }
+    drop(sets);
 }
 
 // What is shown of each message of a folder, if these names are ignored and these retained.
@@ -132,9 +133,13 @@ fn put_folder(case: &[Text], out: &mut Answer) {
     name_fields(&mut sets, words(case, 3), false, out);
     name_fields(&mut sets, words(case, 4), true, out);
     match folder_of(out.alloc(), field(case, 2)) {
-        Ok(folder) => put_each_message(&folder, &sets, out),
+        Ok(folder) => {
+            put_each_message(&folder, &sets, out);
+            drop(folder);
+        }
         Err(_) => out.put_bad(),
     }
+    drop(sets);
 }
 
 fn put_each_message(folder: &Folder, sets: &FieldSets, out: &mut Answer) {

@@ -32,7 +32,7 @@ pub fn put(case: &[Text], out: &mut Answer) {
     let text = field(case, 2);
     match words(case, 1) {
         "acts" => put_acts(state_of(text), out),
-        "flagging" => put_flagging(mark_in(text), out),
+        "flagging" => put_after(&FLAGGING, &[mark_in(text)], out),
         "no rows" => out.put_found(RowList::new(out.alloc()).next(Standing::Live, 0)),
         "new order" => out.put_numbers(Order::new(out.alloc()).items()),
         _ => {
@@ -116,66 +116,78 @@ fn put_flags(out: &mut Answer, flags: Flags) {
     out.put(if flags.draft { b"T" } else { b"" });
 }
 
-// What each act makes of a message of a state that wasn't seen, and of one that was.
-fn put_acts(state: State, out: &mut Answer) {
-    for act in ACTS {
-        for seen in [false, true] {
-            let flags = flags_in(b"");
-            put_mark(out, after(Mark { state, seen, flags }, act));
+// What each act makes of each mark.
+fn put_after(acts: &[Act], marks: &[Mark], out: &mut Answer) {
+    for act in acts {
+        for mark in marks {
+            put_mark(out, after(*mark, *act));
         }
         out.put(b" ");
     }
 }
 
-// What each act that sets or clears a flag makes of a mark.
-fn put_flagging(mark: Mark, out: &mut Answer) {
-    for act in FLAGGING {
-        put_mark(out, after(mark, act));
-        out.put(b" ");
+// A mark without flags.
+fn plain_mark(state: State, seen: bool) -> Mark {
+    Mark {
+        state,
+        seen,
+        flags: flags_in(b""),
     }
+}
+
+// What each act makes of a message of a state that wasn't seen, and of one that was.
+fn put_acts(state: State, out: &mut Answer) {
+    let marks = [plain_mark(state, false), plain_mark(state, true)];
+    put_after(&ACTS, &marks, out);
 }
 
 // The mark of a text, and the text stamped as read and as new with these flags.
 fn put_stamped(text: &[u8], flags: Flags, out: &mut Answer) -> Result<(), Memory> {
     put_mark(out, mark_of(&Header::read(out.alloc(), text)?));
-    for (state, seen) in [(State::Read, true), (State::New, false)] {
-        out.put(b"<");
-        out.put_made(stamped(out.alloc(), text, Mark { state, seen, flags }));
-        out.put(b">");
-    }
+    let (state, seen) = (State::Read, true);
+    put_stamp(text, Mark { state, seen, flags }, out);
+    let (state, seen) = (State::New, false);
+    put_stamp(text, Mark { state, seen, flags }, out);
     Ok(())
+}
+
+// A text stamped with a mark.
+fn put_stamp(text: &[u8], mark: Mark, out: &mut Answer) {
+    out.put(b"<");
+    out.put_made(stamped(out.alloc(), text, mark));
+    out.put(b">");
 }
 
 // The row of a text, and whether its mark is the text's.
 fn put_row(text: &[u8], out: &mut Answer) -> Result<(), Memory> {
+    let mark = mark_of(&Header::read(out.alloc(), text)?);
     let row = row_of(out.alloc(), text)?;
     put_row_texts(&row, out);
     put_moment(row.moment, out);
     out.put(b" ");
     out.put_shown(&row.size);
     out.put(b" ");
-    out.put_flag(row.mark == mark_of(&Header::read(out.alloc(), text)?));
+    out.put_flag(row.mark == mark);
+    drop(row);
     Ok(())
 }
 
 // The texts and the ids of a row, each with a line feed after it.
 fn put_row_texts(row: &Row, out: &mut Answer) {
-    for text in [
-        row.texts.subject(),
-        row.texts.author(),
-        row.texts.shown_author(),
-        row.texts.to(),
-        row.texts.own_id(),
-    ] {
-        out.put(text);
-        out.put(b"\n");
-    }
-    for ids in [&row.references, &row.reply] {
-        for id in ids.items() {
-            out.put(id.bytes());
-        }
-        out.put(b"\n");
-    }
+    put_line(row.texts.subject(), out);
+    put_line(row.texts.author(), out);
+    put_line(row.texts.shown_author(), out);
+    put_line(row.texts.to(), out);
+    put_line(row.texts.own_id(), out);
+    out.put_texts(b"", row.references.items(), b"");
+    out.put(b"\n");
+    out.put_texts(b"", row.reply.items(), b"");
+    out.put(b"\n");
+}
+
+fn put_line(text: &[u8], out: &mut Answer) {
+    out.put(text);
+    out.put(b"\n");
 }
 
 // The rows of `count` messages.
@@ -187,19 +199,19 @@ fn rows(alloc: Global, count: u32) -> Result<Items<Row>, Memory> {
     Ok(rows)
 }
 
+// Whether a place is one of these.
+fn has(places: &[u32], k: usize) -> bool {
+    match u32::try_from(k) {
+        Ok(k) => places.contains(&k),
+        Err(_) => false,
+    }
+}
+
 // Gives all rows but these a state.
 fn set_others(list: &mut RowList, these: &[u32], state: State) {
     for k in 0..list.items().len() {
-        if !these.iter().any(|n| *n as usize == k) {
-            let flags = flags_in(b"");
-            list.set_mark(
-                k,
-                Mark {
-                    state,
-                    seen: false,
-                    flags,
-                },
-            );
+        if !has(these, k) {
+            list.set_mark(k, plain_mark(state, false));
         }
     }
 }
@@ -226,6 +238,7 @@ fn put_live(case: &[Text], out: &mut Answer) -> Result<(), Memory> {
     let mut list = RowList::of(out.alloc(), rows(out.alloc(), number(case, 2))?)?;
     delete_others(&mut list, numbers(words(case, 3), out).items());
     put_near(&list, Standing::Live, place(case, 4), out);
+    drop(list);
     Ok(())
 }
 
@@ -235,6 +248,7 @@ fn put_dead(case: &[Text], out: &mut Answer) -> Result<(), Memory> {
     delete_others(&mut list, &[]);
     give_back_others(&mut list, numbers(words(case, 3), out).items());
     put_near(&list, Standing::Dead, place(case, 4), out);
+    drop(list);
     Ok(())
 }
 

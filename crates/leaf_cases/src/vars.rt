@@ -25,7 +25,7 @@ fn put_asked(vars: &Vars, case: &[Text], out: &mut Answer) {
     match words(case, 1) {
         "number" => match vars.number(text) {
             Ok(n) => out.put_shown(&n),
-            Err(error) => out.put_shown(&error),
+            Err(error) => out.put_error(error),
         },
         "get" => out.put(vars.get(text).unwrap_or(b"unset")),
         "flag" => out.put_flag(vars.flag(text)),
@@ -52,7 +52,7 @@ fn put_new(vars: &mut Vars, out: &mut Answer) {
 fn put_set(vars: &mut Vars, name: &[u8], value: &[u8], out: &mut Answer) {
     match vars.set(name, value) {
         Ok(()) => out.put(b"ok"),
-        Err(error) => out.put_shown(&error),
+        Err(error) => out.put_error(error),
     }
 }
 
@@ -73,6 +73,7 @@ fn put_copied(vars: &mut Vars, name: &[u8], out: &mut Answer) {
             out.put_flag(vars.unset(name));
             out.put(b" ");
             put_all(&copy, out);
+            drop(copy);
         }
         Err(Memory) => out.lack(),
     }
@@ -120,7 +121,10 @@ fn put_environment(case: &[Text], out: &mut Answer) {
         out.put(b" ");
     }
     match Places::read(out.alloc(), pairs.items()) {
-        Ok(Some(places)) => put_of_places(&places, case, out),
+        Ok(Some(places)) => {
+            put_of_places(&places, case, out);
+            drop(places);
+        }
         Ok(None) => out.put(b"none"),
         Err(Memory) => out.lack(),
     }
@@ -132,30 +136,33 @@ fn put_of_places(places: &Places, case: &[Text], out: &mut Answer) {
         "places" => put_each_place(places, out),
         "width" => out.put_shown(&places.width),
         "expand" => match Vars::new(out.alloc()) {
-            Ok(mut vars) => put_expanded(places, &mut vars, case, out),
+            Ok(mut vars) => {
+                put_expanded(places, &mut vars, case, out);
+                drop(vars);
+            }
             Err(Memory) => out.lack(),
         },
         _ => out.put_bad(),
     }
 }
 
+fn put_place(place: &Text, out: &mut Answer) {
+    out.put(place.bytes());
+    out.put(b",");
+}
+
 fn put_each_place(places: &Places, out: &mut Answer) {
-    for place in [
-        &places.home,
-        &places.user,
-        &places.mail,
-        &places.rc,
-        &places.mbox,
-        &places.dead,
-        &places.lister,
-        &places.shell,
-        &places.editor,
-        &places.visual,
-        &places.tz,
-    ] {
-        out.put(place.bytes());
-        out.put(b",");
-    }
+    put_place(&places.home, out);
+    put_place(&places.user, out);
+    put_place(&places.mail, out);
+    put_place(&places.rc, out);
+    put_place(&places.mbox, out);
+    put_place(&places.dead, out);
+    put_place(&places.lister, out);
+    put_place(&places.shell, out);
+    put_place(&places.editor, out);
+    put_place(&places.visual, out);
+    put_place(&places.tz, out);
     out.put_shown(&places.width);
 }
 

@@ -11,7 +11,10 @@ use thread_view::{Key, View};
 
 pub fn put(messages: &[Text], case: &[Text], out: &mut Answer) {
     match rows_of(out.alloc(), messages) {
-        Ok(rows) => put_of(rows.items(), case, out),
+        Ok(rows) => {
+            put_of(rows.items(), case, out);
+            drop(rows);
+        }
         Err(Memory) => out.lack(),
     }
 }
@@ -24,7 +27,10 @@ fn put_of(rows: &[Row], case: &[Text], out: &mut Answer) {
         return put_grown(rows, case, out);
     }
     match view_of(out.alloc(), rows, words(case, 2)) {
-        Ok(view) => put_view(&view, case, out),
+        Ok(view) => {
+            put_view(&view, case, out);
+            drop(view);
+        }
         Err(Memory) => out.lack(),
     }
 }
@@ -65,6 +71,7 @@ fn put_anew(view: View, rows: &[Row], out: &mut Answer)
         Ok(()) => put_order(&view, out),
         Err(Memory) => out.lack(),
     }
+    drop(view);
 }
 
 fn put_order(view: &View, out: &mut Answer) {

@@ -1,8 +1,11 @@
 // One case: its run, and what is printed of it.
-use case_blocks::{Answer, Case, Tells, host, is_case, is_plain, number, put_disk, value, view};
+use case_blocks::{
+    Answer, Case, Tells, host, is_case, number, pairs_of, put_disk, put_unknown, value, view,
+    words_of,
+};
 use host_memory::MemHost;
 use host_port::Event;
-use mail_text::{Items, Memory, Text};
+use mail_text::{Memory, Text};
 use mailx_top::{Environment, run, try_host};
 
 /// The heads of lines that say something of a run.
@@ -10,34 +13,9 @@ const HEADS: [&str; 8] = [
     "words ", "env ", "folder ", "terminal", "token ", "children", "edits", "trial ",
 ];
 
-fn words(case: Case<'_>, out: &mut Answer) -> Items<Text> {
-    let mut words = Items::new(out.alloc());
-    for word in value(case, "words ").unwrap_or("").split(' ') {
-        if !word.is_empty() {
-            let word = out.decoded(word);
-            out.note(words.push(word));
-        }
-    }
-    words
-}
-
-fn put_pairs(block: &str, pairs: &mut Items<(Text, Text)>, out: &mut Answer) {
-    for line in block.lines() {
-        if let Some(pair) = line.strip_prefix("env ") {
-            let (name, bytes) = pair.split_once('=').unwrap_or((pair, ""));
-            let name = out.decoded(name);
-            let bytes = out.decoded(bytes);
-            out.note(pairs.push((name, bytes)));
-        }
-    }
-}
-
 fn environment(case: Case<'_>, out: &mut Answer) -> Environment {
-    let mut pairs = Items::new(out.alloc());
-    put_pairs(case.own, &mut pairs, out);
-    put_pairs(case.always, &mut pairs, out);
     Environment {
-        pairs,
+        pairs: pairs_of(case, out),
         folder: out.decoded(value(case, "folder ").unwrap_or("")),
         terminal: value(case, "terminal").is_some(),
         token: number(value(case, "token ").unwrap_or("1")),
@@ -46,9 +24,11 @@ fn environment(case: Case<'_>, out: &mut Answer) -> Environment {
 
 // The number of the status that the run answers.
 fn ended(case: Case<'_>, host: &mut MemHost, out: &mut Answer) -> u8 {
-    let words = words(case, out);
+    let words = words_of(value(case, "words ").unwrap_or(""), out);
     let env = environment(case, out);
-    run(out.alloc(), words.items(), &env, host).number()
+    let status = run(out.alloc(), words.items(), &env, host);
+    drop(env);
+    status.number()
 }
 
 // What the run says.
@@ -126,6 +106,7 @@ fn put_left(case: Case<'_>, host: &MemHost, status: u8, out: &mut Answer) {
     out.put_plain(b"\n");
     let before = view(case, out);
     put_disk(&before, host, out);
+    drop(before);
 }
 
 fn put_run(case: Case<'_>, host: &mut MemHost, out: &mut Answer) {
@@ -147,22 +128,9 @@ fn put_trial(case: Case<'_>, count: u64, out: &mut Answer) {
         Ok((host, status)) => {
             put_first_right(&host, out);
             put_left(case, &host, status.number(), out);
+            drop(host);
         }
         Err(Memory) => out.lack(),
-    }
-}
-
-fn is_known(line: &str) -> bool {
-    is_plain(line) || HEADS.iter().any(|head| line.starts_with(*head))
-}
-
-fn put_unknown(block: &str, out: &mut Answer) {
-    for line in block.lines() {
-        if !is_known(line) {
-            out.put_plain(b"unknown: ");
-            out.put_plain(line.as_bytes());
-            out.put_plain(b"\n");
-        }
     }
 }
 
@@ -171,12 +139,15 @@ pub struct Runs;
 
 impl Tells for Runs {
     fn tell(&self, case: Case<'_>, out: &mut Answer) {
-        put_unknown(case.own, out);
+        put_unknown(case.own, &HEADS, out);
         if is_case(case) {
             match value(case, "trial ") {
                 Some(count) => put_trial(case, number(count), out),
                 None => match host(case, out) {
-                    Ok(mut host) => put_run(case, &mut host, out),
+                    Ok(mut host) => {
+                        put_run(case, &mut host, out);
+                        drop(host);
+                    }
                     Err(Memory) => out.lack(),
                 },
             }

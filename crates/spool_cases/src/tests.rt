@@ -27,63 +27,85 @@ fn called<R: Abort>(
     Ok((status.number(), spool.told().len()))
 }
 
-// A change of a mailbox, and each way in which a step of it comes to nothing. Of each: the operation, the call that fails
-// and how, the status and the number of calls.
-#[test]
-fn changes(rt: HostRuntime) -> Result<(), Fail> {
-    let alloc = rt.alloc();
-    let mut spool = MemSpool::new(&rt, alloc, Text::copy(alloc, USERS)?);
-    let input = Some((6, Stop::Input));
-    let disk = Some((2, Stop::Disk));
-    let held = Some((1, Stop::Refused));
-    let memory = Some((0, Stop::Memory));
-    for (operation, fails, want, calls) in [
-        ("publish", None, 6, 4),
-        ("erase", None, 6, 4),
-        ("stage", None, 6, 4),
-        ("discard", None, 6, 4),
-        ("lock", held, 6, 2),
-        ("lock", None, 0, 8),
-        ("lock", None, 1, 4),
-        ("publish", None, 1, 6),
-        ("stage", input, 3, 7),
-        ("stage", disk, 5, 3),
-        ("stage", memory, 8, 1),
-        ("stage", held, 6, 2),
-        ("stage", None, 0, 8),
-        ("stage", None, 0, 9),
-        ("publish", None, 0, 8),
-        ("stage", None, 0, 8),
-        ("discard", None, 0, 7),
-        ("discard", None, 0, 6),
-        ("erase", None, 0, 7),
-        ("erase", None, 0, 6),
-        ("unlock", held, 6, 2),
-        ("unlock", None, 0, 8),
-        ("unlock", None, 0, 6),
-        ("look", None, 2, 0),
-    ] {
+// An operation, the user whose mailbox it asks for, the call that fails and how, and what is wanted: the status and how
+// many calls were made.
+type Row = (
+    &'static str,
+    &'static str,
+    Option<(usize, Stop)>,
+    (u8, usize),
+);
+
+// A change of a mailbox, and each way in which a step of it comes to nothing.
+const CHANGES: [Row; 24] = [
+    ("publish", "ann", None, (6, 4)),
+    ("erase", "ann", None, (6, 4)),
+    ("stage", "ann", None, (6, 4)),
+    ("discard", "ann", None, (6, 4)),
+    ("lock", "ann", Some((1, Stop::Refused)), (6, 2)),
+    ("lock", "ann", None, (0, 8)),
+    ("lock", "ann", None, (1, 4)),
+    ("publish", "ann", None, (1, 6)),
+    ("stage", "ann", Some((6, Stop::Input)), (3, 7)),
+    ("stage", "ann", Some((2, Stop::Disk)), (5, 3)),
+    ("stage", "ann", Some((0, Stop::Memory)), (8, 1)),
+    ("stage", "ann", Some((1, Stop::Refused)), (6, 2)),
+    ("stage", "ann", None, (0, 8)),
+    ("stage", "ann", None, (0, 9)),
+    ("publish", "ann", None, (0, 8)),
+    ("stage", "ann", None, (0, 8)),
+    ("discard", "ann", None, (0, 7)),
+    ("discard", "ann", None, (0, 6)),
+    ("erase", "ann", None, (0, 7)),
+    ("erase", "ann", None, (0, 6)),
+    ("unlock", "ann", Some((1, Stop::Refused)), (6, 2)),
+    ("unlock", "ann", None, (0, 8)),
+    ("unlock", "ann", None, (0, 6)),
+    ("look", "ann", None, (2, 0)),
+];
+
+// What isn't ann's stays: bob's mailbox, a mailbox of hers that bob owns, and then also a staged file that he owns.
+const OF_BOB: [Row; 1] = [("lock", "bob", None, (7, 1))];
+
+const OWNED_BY_BOB: [Row; 4] = [
+    ("lock", "ann", None, (0, 8)),
+    ("stage", "ann", None, (6, 6)),
+    ("publish", "ann", None, (6, 5)),
+    ("erase", "ann", None, (6, 5)),
+];
+
+const STAGED_BY_BOB: [Row; 1] = [("discard", "ann", None, (6, 5))];
+
+fn hold<R: Abort>(
+    rt: &R,
+    alloc: Global,
+    spool: &mut MemSpool<&R>,
+    rows: &[Row],
+) -> Result<(), Fail> {
+    for (operation, user, fails, want) in rows {
         assert_eq!(rt;
-            called(alloc, &mut spool, operation, "ann", fails)?,
-            (want, calls),
+            called(alloc, spool, operation, user, *fails)?,
+            *want,
             "at {operation}"
         );
     }
     Ok(())
 }
 
-// What isn't ann's stays.
+#[test]
+fn changes(rt: HostRuntime) -> Result<(), Fail> {
+    let alloc = rt.alloc();
+    let mut spool = MemSpool::new(&rt, alloc, Text::copy(alloc, USERS)?);
+    hold(&rt, alloc, &mut spool, &CHANGES)
+}
+
 #[test]
 fn others(rt: HostRuntime) -> Result<(), Fail> {
     let alloc = rt.alloc();
     let mut spool = MemSpool::new(&rt, alloc, Text::copy(alloc, USERS)?);
-    assert_eq!(rt; called(alloc, &mut spool, "lock", "bob", None)?, (7, 1));
+    hold(&rt, alloc, &mut spool, &OF_BOB)?;
     spool.put(b"ann", 1001, 0o660);
-    assert_eq!(rt; called(alloc, &mut spool, "lock", "ann", None)?, (0, 8));
-    assert_eq!(rt; called(alloc, &mut spool, "stage", "ann", None)?, (6, 6));
-    assert_eq!(rt; called(alloc, &mut spool, "publish", "ann", None)?, (6, 5));
-    assert_eq!(rt; called(alloc, &mut spool, "erase", "ann", None)?, (6, 5));
+    hold(&rt, alloc, &mut spool, &OWNED_BY_BOB)?;
     spool.put(b"ann.mx0123456789abcdef", 1001, 0o600);
-    assert_eq!(rt; called(alloc, &mut spool, "discard", "ann", None)?, (6, 5));
-    Ok(())
+    hold(&rt, alloc, &mut spool, &STAGED_BY_BOB)
 }

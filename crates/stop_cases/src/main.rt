@@ -22,11 +22,12 @@ mod running;
 
 use case_blocks::{Answer, Case, Tells, is_case, told, value};
 use committing::Commits;
-use fault_tables::{put_faults, put_faulty_recoveries, put_others, put_told};
 use running::Runs;
 use std::io;
 use std::process::ExitCode;
-use stop_tables::{Script, put_stops, read_script};
+use stop_tables::{
+    Script, put_faults, put_faulty_recoveries, put_others, put_stops, put_told, read_script,
+};
 
 fn put_tables(script: Script<'_>, out: &mut Answer) {
     if value(script.case, "commit").is_some() {

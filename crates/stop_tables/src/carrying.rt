@@ -1,9 +1,7 @@
 // Runs that are carried out.
-ghost use Rattle.std.specs.Prelude.{◌≤◌};
-
 use crate::scripts::Script;
-use case_blocks::{Answer, Case, host, put_disk, value, view};
-use host_memory::{MemHost, Plan};
+use case_blocks::{Answer, Case, failing, host, pairs_of, put_disk, value, view, words_of};
+use host_memory::MemHost;
 use host_port::{DiskView, Part};
 use mail_text::{Items, Memory, Text};
 use std::alloc::Global;
@@ -45,26 +43,6 @@ pub struct Run {
     pub ending: Ending,
 }
 
-fn words(line: &str, out: &mut Answer) -> Items<Text> {
-    let mut words = Items::new(out.alloc());
-    for word in line.split(' ') {
-        let word = out.decoded(word);
-        out.note(words.push(word));
-    }
-    words
-}
-
-fn put_pairs(block: &str, pairs: &mut Items<(Text, Text)>, out: &mut Answer) {
-    for line in block.lines() {
-        if let Some(pair) = line.strip_prefix("env ") {
-            let (name, bytes) = pair.split_once('=').unwrap_or((pair, ""));
-            let name = out.decoded(name);
-            let bytes = out.decoded(bytes);
-            out.note(pairs.push((name, bytes)));
-        }
-    }
-}
-
 // Runs a program over a host to its end.
 fn run_on<P: Program>(
     program: &P,
@@ -74,10 +52,8 @@ fn run_on<P: Program>(
     mut host: MemHost,
     out: &mut Answer,
 ) -> Run {
-    let mut pairs = Items::new(out.alloc());
-    put_pairs(case.own, &mut pairs, out);
-    put_pairs(case.always, &mut pairs, out);
-    let words = words(line, out);
+    let pairs = pairs_of(case, out);
+    let words = words_of(line, out);
     let ending = program.run(out.alloc(), words.items(), pairs, token, &mut host);
     Run { host, ending }
 }
@@ -105,20 +81,6 @@ pub fn carry_out<P: Program>(
             run_of(program, case, out)
         }
         Err(_) => Err(Memory),
-    }
-}
-
-// The plan of a host to which nothing happens but that these calls fail.
-fn failing(alloc: Global, fails: Items<(u64, Part)>) -> Plan
-    ensures { 1 ≤ result.chunk }
-{
-    Plan {
-        now: 0,
-        chunk: 1,
-        foreign: Items::new(alloc),
-        fails,
-        children: Items::new(alloc),
-        edits: Items::new(alloc),
     }
 }
 

@@ -1,5 +1,6 @@
 //! Whole runs of a program over a host in memory, and tables of what is left of them: each run is stopped inside every
-//! event, and so is each recovery of what that leaves. For the crates of tests.
+//! event, and so is each recovery of what that leaves; each call of a run and of recoveries fails; and another does a
+//! step before each call. For the crates of tests.
 //!
 //! The lines of a script are those of `case_blocks`, and these:
 //!
@@ -7,6 +8,8 @@
 //! |---|---|
 //! | `words WORD..` | the words of the command line, each between blanks |
 //! | `env NAME=VALUE` | a variable of the environment; HOME is `/h` |
+//! | `step STEP` | a step of another, in the words of a line `other` |
+//! | `back STEP` | what the other does before the next call |
 //! | `after TURN..` | what has become of the disk after these turns, in lines as `put_changes` puts them, to the next such line |
 //!
 //! The turns of a run are what decides how its disk is left. Before the first one the disk is as at the start.
@@ -22,17 +25,18 @@
 #![tactic(auto)]
 
 mod carrying;
-mod cuts;
+mod faults;
+mod judging;
+mod others;
 mod scripts;
 mod stops;
 mod tally;
+mod told;
 mod turning;
 
-pub use carrying::{
-    Decided, Ending, Program, Run, Scene, carry_out, put_recovery, recover, start_of,
-};
-pub use cuts::{Cut, count_cuts, cut_at};
-pub use scripts::{Script, is_wanted, read_script};
+pub use carrying::{Decided, Ending, Program};
+pub use faults::{put_faults, put_faulty_recoveries};
+pub use others::put_others;
+pub use scripts::{Script, read_script};
 pub use stops::put_stops;
-pub use tally::Tally;
-pub use turning::{OWN_START, RECORD, first, is_deciding, turns};
+pub use told::put_told;

@@ -1,10 +1,9 @@
 // Stops inside each event of a run, and inside each event of their recoveries.
 use crate::carrying::{Program, Scene, carry_out, put_recovery, start_of};
-use crate::cuts::{Cut, count_cuts, cut_at};
 use crate::scripts::{Script, is_wanted};
 use crate::tally::Tally;
 use crate::turning::{first, turns};
-use case_blocks::{Answer, part, put_changes};
+use case_blocks::{Answer, Cut, count_cuts, cut_at, part, put_changes};
 use host_memory::MemHost;
 use host_port::DiskView;
 use mail_text::Memory;
@@ -42,6 +41,7 @@ fn shown_image(
     let disk = image(host, cut, out)?;
     let mut shown = Answer::new(out.alloc());
     put_changes(&scene.start, &disk, &mut shown);
+    drop(disk);
     Ok(shown)
 }
 
@@ -207,5 +207,6 @@ fn put_scene<P: Program>(program: &P, scene: &Scene<'_>, out: &mut Answer) -> Re
 pub fn put_stops<P: Program>(program: &P, script: Script<'_>, out: &mut Answer) {
     let scene = start_of(script, out);
     let done = put_scene(program, &scene, out);
+    drop(scene);
     out.note(done);
 }

@@ -1,6 +1,5 @@
 // What a table comes to.
-use crate::cuts::Cut;
-use case_blocks::Answer;
+use case_blocks::{Answer, Cut};
 use std::alloc::Global;
 
 /// How many entries were tried, and the first that wasn't as it should be.

@@ -1,8 +1,9 @@
 // What a run does once a call has failed.
+use crate::carrying::Run;
+use crate::turning::{OWN_START, RECORD, first, is_deciding};
 use case_blocks::Answer;
 use host_port::Event;
 use mail_text::lines;
-use stop_tables::{OWN_START, RECORD, Run, first, is_deciding};
 
 const SHARED_START: &[u8] = b"/etc/mail.rc";
 
@@ -10,29 +11,30 @@ fn is_own(event: &Event) -> bool {
     !matches!(event, Event::Foreign { .. })
 }
 
-/// How many events are the run's own.
-pub fn count_own(events: &[Event]) -> usize {
+// Where the own event stands behind this many own ones, the end if there are fewer, and how many own ones come before.
+fn own_before(events: &[Event], count: usize) -> (usize, usize) {
     let mut own = 0usize;
-    for event in events {
+    for (k, event) in events.iter().enumerate() {
         if is_own(event) {
+            if own == count {
+                return (k, own);
+            }
             own = own.saturating_add(1);
         }
     }
+    (events.len(), own)
+}
+
+/// How many events are the run's own.
+pub fn count_own(events: &[Event]) -> usize {
+    let (_, own) = own_before(events, usize::MAX);
     own
 }
 
 // The place of the own event behind this many own ones; the end if there are fewer.
 fn place(events: &[Event], count: usize) -> usize {
-    let mut own = 0usize;
-    for (k, event) in events.iter().enumerate() {
-        if is_own(event) {
-            if own == count {
-                return k;
-            }
-            own = own.saturating_add(1);
-        }
-    }
-    events.len()
+    let (place, _) = own_before(events, count);
+    place
 }
 
 // The events behind the first `count`.
@@ -137,31 +139,29 @@ fn is_like(clean: &Run, run: &Run, out: &Answer) -> bool {
     run.ending == clean.ending && said(run.host.trace(), out).bytes() == wanted.bytes()
 }
 
-// Whether a run says that the sender could not be run, and else what another says behind its line on the sender.
-fn is_not_sent(clean: &Run, run: &Run, at: usize, out: &Answer) -> bool {
+// Whether a run says this line of a child at a place, and else what another says behind its own line on it.
+fn is_not_run(clean: &Run, run: &Run, at: usize, line: &[u8], out: &Answer) -> bool {
     let mut wanted = Answer::new(out.alloc());
-    wanted.put_plain(b"sender could not be run\n");
+    wanted.put_plain(line);
     let clean_said = said(behind(clean.host.trace(), at), out);
     for line in lines(clean_said.bytes()).skip(1) {
         wanted.put_plain(line);
         wanted.put_plain(b"\n");
     }
+    said(behind(run.host.trace(), at), out).bytes() == wanted.bytes()
+}
+
+// Whether a run says that the sender could not be run, and else what another says behind its line on the sender.
+fn is_not_sent(clean: &Run, run: &Run, at: usize, out: &Answer) -> bool {
     run.ending.status == 6
         && run.ending.sender.is_none()
-        && said(behind(run.host.trace(), at), out).bytes() == wanted.bytes()
+        && is_not_run(clean, run, at, b"sender could not be run\n", out)
 }
 
 // Whether a run says that the editor could not be run, and else what another says behind its line on the edited message.
 fn is_not_edited(clean: &Run, run: &Run, at: usize, out: &Answer) -> bool {
-    let mut wanted = Answer::new(out.alloc());
-    wanted.put_plain(b"editor could not be run\n");
-    let clean_said = said(behind(clean.host.trace(), at), out);
-    for line in lines(clean_said.bytes()).skip(1) {
-        wanted.put_plain(line);
-        wanted.put_plain(b"\n");
-    }
     run.ending.status == clean.ending.status
-        && said(behind(run.host.trace(), at), out).bytes() == wanted.bytes()
+        && is_not_run(clean, run, at, b"editor could not be run\n", out)
 }
 
 fn is_startup(name: &[u8]) -> bool {

@@ -1,13 +1,13 @@
 // Calls that fail, one in each run.
+use crate::carrying::{Program, Run, Scene, carry_out, put_recovery, recover, start_of};
 use crate::judging::{are_released, count_own, is_met, is_met_in_recovery, put_end};
-use case_blocks::{Answer, part};
+use crate::scripts::{Script, is_wanted};
+use crate::tally::Tally;
+use crate::turning::{first, is_deciding, turns};
+use case_blocks::{Answer, Cut, count_cuts, cut_at, part};
 use host_memory::MemHost;
 use host_port::DiskView;
 use mail_text::{Items, Memory};
-use stop_tables::{
-    Cut, Program, Run, Scene, Script, Tally, carry_out, count_cuts, cut_at, first, is_deciding,
-    is_wanted, put_recovery, recover, start_of, turns,
-};
 
 // A run of a script whose call at this place fails.
 fn failed<P: Program>(
@@ -246,6 +246,7 @@ pub fn put_faults<P: Program>(program: &P, script: Script<'_>, out: &mut Answer)
     let scene = start_of(script, out);
     let mut tally = Tally::new(out.alloc());
     let done = fail_calls(program, &scene, &mut tally, out);
+    drop(scene);
     out.note(done);
     tally.put("faults", out);
 }
@@ -255,6 +256,7 @@ pub fn put_faulty_recoveries<P: Program>(program: &P, script: Script<'_>, out: &
     let scene = start_of(script, out);
     let mut tally = Tally::new(out.alloc());
     let done = fail_around_all(program, &scene, &mut tally, out);
+    drop(scene);
     out.note(done);
     tally.put("faulty recoveries", out);
 }

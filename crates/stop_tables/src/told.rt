@@ -1,11 +1,11 @@
 // What commits whose calls fail say of whether they were decided.
+use crate::carrying::{Decided, Program, Run, carry_out};
 use crate::judging::count_own;
-use case_blocks::Answer;
+use crate::scripts::Script;
+use crate::turning::{RECORD, first, is_deciding};
+use case_blocks::{Answer, Cut, count_cuts, cut_at};
 use host_port::{Event, Seen};
 use mail_text::Memory;
-use stop_tables::{
-    Cut, Decided, Program, RECORD, Run, Script, carry_out, count_cuts, cut_at, first, is_deciding,
-};
 
 // How often each thing was said, and how often that didn't agree with the events.
 #[derive(Clone, Copy)]
@@ -24,16 +24,6 @@ fn decides(before: &[Event], event: &Event, out: &Answer) -> bool {
     }
 }
 
-// Whether these events decide the commit.
-fn is_decided(events: &[Event], out: &Answer) -> bool {
-    for (k, event) in events.iter().enumerate() {
-        if decides(first(events, k), event, out) {
-            return true;
-        }
-    }
-    false
-}
-
 // Whether an event behind these is a load of the record that failed right behind the publication that decides.
 fn doubts(before: &[Event], event: &Event, out: &Answer) -> bool {
     match (before.split_last(), event) {
@@ -48,10 +38,21 @@ fn doubts(before: &[Event], event: &Event, out: &Answer) -> bool {
     }
 }
 
-// Whether nobody can know from these events whether the commit was decided.
-fn is_doubtful(events: &[Event], out: &Answer) -> bool {
+// What is asked of the events of a commit: whether they decide it, or whether nobody can know from them if it was decided.
+#[derive(Clone, Copy)]
+enum Asked {
+    Decided,
+    Doubtful,
+}
+
+fn has(asked: Asked, events: &[Event], out: &Answer) -> bool {
     for (k, event) in events.iter().enumerate() {
-        if doubts(first(events, k), event, out) {
+        let before = first(events, k);
+        let is = match asked {
+            Asked::Decided => decides(before, event, out),
+            Asked::Doubtful => doubts(before, event, out),
+        };
+        if is {
             return true;
         }
     }
@@ -62,10 +63,10 @@ fn is_doubtful(events: &[Event], out: &Answer) -> bool {
 fn agrees(run: &Run, out: &Answer) -> bool {
     let events = run.host.trace();
     match run.ending.decided {
-        None => run.ending.status == 0 && is_decided(events, out),
-        Some(Decided::Yes) => is_decided(events, out),
-        Some(Decided::No) => !is_decided(events, out),
-        Some(Decided::Unknown) => is_doubtful(events, out),
+        None => run.ending.status == 0 && has(Asked::Decided, events, out),
+        Some(Decided::Yes) => has(Asked::Decided, events, out),
+        Some(Decided::No) => !has(Asked::Decided, events, out),
+        Some(Decided::Unknown) => has(Asked::Doubtful, events, out),
     }
 }
 

@@ -1,6 +1,6 @@
 // Where a run is cut.
 
-/// A place of a run, counted from 0, and what is left of what happens there: a part as `case_blocks` has it.
+/// A place of a run, counted from 0, and what is left of what happens there, as the words of a part.
 #[derive(Clone, Copy)]
 pub struct Cut {
     pub at: usize,

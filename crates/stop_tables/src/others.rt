@@ -1,10 +1,13 @@
 // Steps of another, put before each call of a run in turn.
+use crate::carrying::{Program, Run, Scene, carry_out, start_of};
 use crate::judging::{are_released, count_own, put_end};
-use case_blocks::{Answer, put_disk, value};
+use crate::scripts::{Script, is_wanted};
+use crate::tally::Tally;
+use crate::turning::turns;
+use case_blocks::{Answer, Cut, put_disk, value};
 use lawful_steps::are_lawful;
 use mail_text::Memory;
 use std::alloc::Global;
-use stop_tables::{Cut, Program, Run, Scene, Script, Tally, carry_out, is_wanted, start_of, turns};
 
 // Whose record and right the runs have, and their token.
 const ACTOR: &[u8] = b"/h/.mailx";
@@ -124,6 +127,7 @@ pub fn put_others<P: Program>(program: &P, script: Script<'_>, out: &mut Answer)
     let scene = start_of(script, out);
     let mut counts = no_counts(out.alloc());
     let done = step_each(program, &scene, &mut counts, out);
+    drop(scene);
     out.note(done);
     counts.tally.put("steps of another", out);
     out.put_plain(b"not lawful ");
