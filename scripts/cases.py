@@ -10,12 +10,12 @@ TOP = os.path.dirname(os.path.dirname(os.path.abspath(__file__)))
 CALLS = "open openat creat write writev pwrite64 ftruncate flock fsync fdatasync rename renameat renameat2 link linkat unlink unlinkat".split()
 
 
-def program():
-    """The program that MAILX_PROGRAM names, or else the one that `./mailx` builds, which is built then."""
-    named = os.environ.get("MAILX_PROGRAM")
-    if not named and subprocess.run([os.path.join(TOP, "scripts", "build")], check=False).returncode:
+def program(name="mailx"):
+    """The program that MAILX_PROGRAM names, or MAIL_DELIVER_PROGRAM, or else the one that `scripts/build` builds, which is built then."""
+    named = os.environ.get(name.upper() + "_PROGRAM")
+    if not named and subprocess.run([os.path.join(TOP, "scripts", "build"), name], check=False).returncode:
         sys.exit(1)
-    return named or os.path.join(TOP, "crates", "mailx", "out", "mailx")
+    return named or os.path.join(TOP, "crates", name, "out", name)
 
 
 def can_trace():
