@@ -60,7 +60,7 @@ sum_of_program() {
 # toolchain: the version of the toolchain on the PATH. Without one, nothing else can be built, so that of the stamp stands.
 toolchain() {
   if command -v rt >/dev/null 2>&1; then
-    rt version
+    rt version </dev/null
   else
     sed -n 2p "$stamp"
   fi
@@ -75,5 +75,5 @@ is_current() {
 # write_stamp SUM-OF-SOURCES: notes of what the program that stands there was built; whole or not at all
 write_stamp() {
   local version sum
-  version=$(rt version) && sum=$(sum_of_program) && printf '%s\n' "$1" "$version" "$sum" >"$stamp.new.$$" && mv -f "$stamp.new.$$" "$stamp"
+  version=$(rt version </dev/null) && sum=$(sum_of_program) && printf '%s\n' "$1" "$version" "$sum" >"$stamp.new.$$" && mv -f "$stamp.new.$$" "$stamp"
 }
