@@ -60,7 +60,15 @@ variables=(LOGNAME=u TZ=UTC0 MAILX_WAIT=0)
 mail=$home/none
 where=$home
 
-# mailx WORD..: the program over the file `in`; what it says stands in `said`, what it says of faults in `why`, and its status in `status`
+# apart: takes what a run said of what stands of a change that failed out of the file `errors`, into `stands`
+stood='^mail(x|_deliver): .*\.commit: (nothing was decided|an earlier [a-z]+ isn.t settled yet|(the|whether the) [a-z]+ was decided)'
+apart() {
+  stands=$(grep -E "$stood" errors | sed 's/.*\.commit: //')
+  sed -i -E "/$stood/d" errors
+}
+
+# mailx WORD..: the program over the file `in`; what it says stands in `said`, what it says of faults in `why`, of what stands of a change that failed
+# in `stands`, and its status in `status`
 mailx() {
   # A shell says of a child that it was killed.
   {
@@ -68,6 +76,7 @@ mailx() {
     status=$?
   } 2>/dev/null
   said=$(cat out)
+  apart
   why=$(cat errors)
 }
 
@@ -81,7 +90,7 @@ session() {
 
 # whys: what was said of faults, in which names stand as they do in the home folder
 whys() {
-  sed "s#$home/##g; s#mailx: \\./#mailx: #" errors
+  sed -E "/$stood/d; s#$home/##g; s#mailx: \\./#mailx: #" errors
 }
 
 # fault NAME STATUS WHAT-IT-SAYS WHY: how the last run ended

@@ -1,5 +1,6 @@
 """What tests of the built program in Python share: the program, texts without dates, and the calls of a run that may change a file. A test that takes it
 sets `sys.dont_write_bytecode` first, and puts this folder in front of `sys.path`."""
+import collections
 import os
 import re
 import shutil
@@ -7,7 +8,11 @@ import subprocess
 import sys
 
 TOP = os.path.dirname(os.path.dirname(os.path.abspath(__file__)))
-CALLS = "open openat creat write writev pwrite64 ftruncate flock fsync fdatasync rename renameat renameat2 link linkat unlink unlinkat".split()
+# A call of a run: its name, its number among the calls of that name, and its line in a trace.
+Call = collections.namedtuple("Call", "name number line")
+# Removals on which nothing depends: of what isn't there, before it is made, of a lock's second name, and of what an editor was given.
+SPARE = re.compile(r'unlink(?:at)?\(.*(?:"[,)].*= -1 ENOENT|(?:\.lock\.mx|\.edit\.)[0-9a-f]{16}"[,)].*= 0$)')
+CALLS = "open openat creat write writev pwrite64 ftruncate flock fsync fdatasync rename renameat renameat2 link linkat unlink unlinkat fchmod fchown".split()
 
 
 def program(name="mailx"):
@@ -31,11 +36,11 @@ def undated(text):
 
 def tracing(log):
     """What a run is traced by, whose calls are to stand in the file `log`; its children are not."""
-    return ["strace", "-o", log, "-e", "trace=" + ",".join("?" + it for it in CALLS)]
+    return ["strace", "-y", "-o", log, "-e", "trace=" + ",".join("?" + it for it in CALLS)]
 
 
 def changing_calls(log):
-    """Each call of a trace that may change a file, with its number among those of its name."""
+    """Each call of a trace that may change a file."""
     counts, found = {}, []
     with open(log, encoding="utf-8", errors="replace") as lines:
         for line in lines:
@@ -46,11 +51,16 @@ def changing_calls(log):
             counts[name] = counts.get(name, 0) + 1
             if name.startswith("open") and not re.search("O_CREAT|O_WRONLY|O_RDWR", line) or at.group(2) in ("1", "2") and name.startswith("write"):
                 continue
-            found.append((name, counts[name]))
+            found.append(Call(name, counts[name], line.rstrip()))
     return found
 
 
+def may_be_passed_over(call, error):
+    """Whether a run may go on as if nothing had failed where this call met this error. An input for which a folder has no room is made in another one."""
+    return bool(SPARE.match(call.line)) or error == "ENOSPC" and "/.mailx.in." in call.line
+
+
 def injecting(call, what):
-    """What a run is traced by so that a call, a name and its number, meets an error or a signal, as `error=EIO`."""
-    name, number = call
+    """What a run is traced by so that a call, by its name and its number, meets an error or a signal, as `error=EIO`."""
+    name, number = call[:2]
     return ["strace", "-o", "/dev/null", "-e", f"trace={name}", "-e", f"inject={name}:{what}:when={number}"]

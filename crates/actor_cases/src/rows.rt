@@ -1,6 +1,6 @@
 // Worked rows of many actors.
-use actor_core::{Actor, Core, CoreError};
-use host_port::DiskView;
+use actor_core::{Actor, Core, CoreChange, CoreError, CoreStep, StepKind};
+use host_port::{DiskView, Part};
 use mail_text::{Items, Memory, Text};
 use std::alloc::Global;
 use std::test::Fail;
@@ -74,5 +74,116 @@ fn starts(rt: HostRuntime) -> Result<(), Fail> {
     assert!(rt; matches!(taken_token(alloc), Ok(1)));
     assert!(rt; matches!(bad_record(alloc), Ok(true)));
     assert!(rt; matches!(begun(alloc), Ok((1, 0, 1))));
+    Ok(())
+}
+
+// A step of an actor, some times, each of which has to be allowed.
+fn steps(core: &mut Core, actor: u32, times: usize) -> Result<bool, Memory> {
+    for _ in 0..times {
+        let step = CoreStep {
+            actor,
+            kind: StepKind::Call,
+        };
+        if !core.step(&step)? {
+            return Ok(false);
+        }
+    }
+    Ok(true)
+}
+
+fn one_step(core: &mut Core, actor: u32, kind: StepKind) -> Result<bool, Memory> {
+    core.step(&CoreStep { actor, kind })
+}
+
+fn commit(alloc: Global, text: &[u8]) -> Result<StepKind, Memory> {
+    let name = Text::copy(alloc, b"/f")?;
+    let mut texts = Items::new(alloc);
+    texts.push(Text::copy(alloc, text)?)?;
+    let mut changes = Items::new(alloc);
+    changes.push(CoreChange::Add { name, texts })?;
+    Ok(StepKind::Commit {
+        changes,
+        moment: 1_704_240_000,
+    })
+}
+
+fn three(alloc: Global) -> Result<Core, CoreError> {
+    let view = DiskView {
+        files: Items::new(alloc),
+        locks: Items::new(alloc),
+    };
+    let mut actors = two(alloc, 1, 2)?;
+    actors.push(actor(alloc, b"/h/.mailx", 3)?)?;
+    Core::new(alloc, view, actors.items())
+}
+
+// Two begin; five calls of the first, then seven of the second, which finds the file locked. Its eighth isn't allowed.
+fn after_second(alloc: Global) -> Result<Core, CoreError> {
+    let mut core = three(alloc)?;
+    let one = commit(alloc, b"one")?;
+    let other = commit(alloc, b"two")?;
+    let mut good = one_step(&mut core, 1, one)?;
+    good = one_step(&mut core, 2, other)? && good;
+    good = steps(&mut core, 1, 5)? && good;
+    good = steps(&mut core, 2, 7)? && good;
+    good = !one_step(&mut core, 2, StepKind::Call)? && good;
+    if good {
+        Ok(core)
+    } else {
+        Err(CoreError::TokenTaken { token: 0 })
+    }
+}
+
+// The first goes on to its end.
+fn one_commit(alloc: Global) -> Result<bool, CoreError> {
+    let mut core = after_second(alloc)?;
+    let good = steps(&mut core, 1, 8)?;
+    let places = core.places();
+    let one = places.len() == 1 && places[0].0 == 1;
+    let files = core.files();
+    Ok(
+        good && one
+            && files.len() == 1
+            && files[0].0.bytes() == b"/f".as_slice()
+            && files[0].1.bytes() == b"one\n\n".as_slice(),
+    )
+}
+
+fn same_files(a: &[(Text, Text)], b: &[(Text, Text)]) -> bool {
+    a.len() == b.len()
+        && a.iter().all(|(name, bytes)| {
+            b.iter().any(|(other, text)| name.bytes() == other.bytes()
+                && bytes.bytes() == text.bytes())
+        })
+}
+
+// The first stops before its tenth call, and the third recovers.
+fn one_recovery(alloc: Global) -> Result<bool, CoreError> {
+    let mut core = after_second(alloc)?;
+    let mut good = steps(&mut core, 1, 4)?;
+    good = one_step(&mut core, 1, StepKind::Stop(Part::Before))? && good;
+    let before = core.settled()?;
+    good = one_step(&mut core, 3, StepKind::Recover)? && good;
+    good = steps(&mut core, 3, 7)? && good;
+    good = !one_step(&mut core, 3, StepKind::Call)? && good;
+    let after = core.settled()?;
+    Ok(
+        good && same_files(before.files.items(), after.files.items())
+            && same_files(core.files(), after.files.items())
+            && after.locks.items().is_empty(),
+    )
+}
+
+#[test]
+fn commits(rt: HostRuntime) -> Result<(), Fail> {
+    let alloc = rt.alloc();
+    assert!(rt; matches!(one_commit(alloc), Ok(true)));
+    Ok(())
+}
+
+#[test]
+fn recoveries(rt: HostRuntime) -> Result<(), Fail> {
+    let alloc = rt.alloc();
+    assert!(rt; matches!(one_recovery(alloc), Ok(true)));
     Ok(())
 }

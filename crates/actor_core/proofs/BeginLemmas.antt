@@ -1,18 +1,18 @@
 -- Actors that begin: what was found on a copy of the disk holds of the disk, and their state is a reached one.
 use Rattle.std.proofs.Common.{◌≡◌, ℕ, List, [], map, Option, Some, None, refl, ap, sym, subst, ◌∙◌}
-use Rattle.std.specs.declared.result.Result.TheVariants.{Ok, Err}
+use Rattle.std.specs.declared.result.Result.TheVariants.{Ok}
 use Rattle.host_port.specs.Disk.{SameDisk}
-use Rattle.commit_machine.specs.Settled.{Files, Locks, Mem}
+use Rattle.commit_machine.specs.Settled.{Files, Locks}
 use Rattle.memory_disk.specs.declared.standing.Standing.{Standing}
 use Rattle.memory_disk.specs.Lists.{lookup, named, disk_of, NamesOnce}
 use Rattle.memory_disk.specs.Standings.{disk_now}
 use Rattle.core_steps.specs.declared.actor.Actor.{Actor}
 use Rattle.core_steps.specs.declared.actor.Doing.TheVariants.{Nothing}
 use Rattle.core_steps.specs.declared.actor.Member.{Member}
-use Rattle.core_steps.specs.Cores.{CoreState, SameCore}
+use Rattle.core_steps.specs.Cores.{SameCore}
 use Rattle.core_steps.specs.Settling.{changed_by}
-use Rattle.core_steps.specs.Starts.{begun, MayBegin, IsGood, IsBadRecord, IsTokenTaken}
-use Rattle.core_steps.specs.Theorem.{IsReached, settled_files}
+use Rattle.core_steps.specs.Starts.{begun, MayBegin, IsBadRecord, IsTokenTaken}
+use Rattle.core_steps.specs.Theorem.{settled_files}
 use Rattle.core_steps.specs.Turns.{Passed}
 use Rattle.core_steps.proofs.Views.{same_at}
 use Rattle.actor_core.specs.Answers.{Begins}

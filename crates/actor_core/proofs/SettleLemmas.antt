@@ -1,18 +1,15 @@
 -- What recovery by all actors would make of a disk, name by name.
-use Rattle.std.proofs.Common.{◌≡◌, ◌≢◌, ◌⊎◌, ℕ, ◌+◌, ◌<◌, ◌≤◌, Bool, true, false, ◌||◌, ◌&&◌, List, [], ◌∷◌}
+use Rattle.std.proofs.Common.{◌≡◌, ◌≢◌, ◌⊎◌, ℕ, ◌+◌, ◌<◌, Bool, true, false, ◌||◌, ◌&&◌, List, [], ◌∷◌}
 use Rattle.std.proofs.Common.{◌++◌, map, length, take, Option, Some, None, is_some, refl, ap, sym, subst, inl, inr, ◌∙◌, if◌then◌else◌}
-use Rattle.std.proofs.Common.{zero, suc, get_or, arith, Result, Ok, Err, OnOk}
+use Rattle.std.proofs.Common.{zero, suc, get_or, arith}
 use Rattle.std.proofs.lemmas.List.{take_more}
-use Rattle.std.specs.List.{list_any, flat_map}
-use Rattle.std.specs.Str.{bytes_eq}
-use Rattle.std.proofs.lemmas.Bool.{and_parts, or_cases, or_left, or_right}
-use Rattle.std.proofs.lemmas.Slice.Eq.{bytes_eq-Decides}
+use Rattle.std.specs.List.{flat_map}
 use Rattle.host_port.specs.Disk.{Disk, SameDisk, with_at}
 use Rattle.commit_record.specs.declared.record.Record.{Record}
-use Rattle.commit_machine.specs.Names.{record_name, staged_name}
-use Rattle.commit_machine.specs.Records.{record_in, is_go, names_of, has}
-use Rattle.commit_machine.specs.Settled.{Files, Locks, Mem, hides, placed, settled, owned_by, unlocked}
-use Rattle.commit_machine.proofs.records.Same.{same_refl, same_or_not, put_here, put_there, has_Mem}
+use Rattle.commit_machine.specs.Names.{staged_name}
+use Rattle.commit_machine.specs.Records.{is_go, names_of, has}
+use Rattle.commit_machine.specs.Settled.{Files, Locks, Mem, settled, unlocked}
+use Rattle.commit_machine.proofs.records.Same.{same_or_not, put_here, put_there, has_Mem}
 use Rattle.memory_disk.specs.Lists.{lookup, disk_of, names_of as pair_names, NamesOnce}
 use Rattle.core_steps.specs.Settling.{standing_in, puts, hidden_by, placed_by, settled_by, settled_locks_by}
 use Rattle.core_steps.specs.declared.actor.Member.{Member}

@@ -1,26 +1,23 @@
 -- Whether actors may begin, as it is looked for.
-use Rattle.std.proofs.Common.{◌≡◌, ◌≢◌, ◌⊎◌, ℕ, ◌==◌, ◌-◌, ◌<◌, ◌^◌, Bool, true, false, not, ◌||◌, ◌&&◌, List, []}
-use Rattle.std.proofs.Common.{◌∷◌, ◌++◌, map, length, take, Option, Some, None, is_some, nat_eq, refl, ap, sym, subst, inl, inr, ◌∙◌}
-use Rattle.std.proofs.Common.{◌+◌, ◌≤◌, suc, drop, get_or, arith, take_all, take-append-drop, drop-cons, IfOk, Result, Ok, Err, add-one}
+use Rattle.std.proofs.Common.{◌≡◌, ◌≢◌, ◌⊎◌, ℕ, ◌==◌, ◌-◌, ◌<◌, ◌^◌, Bool, true, false, not, ◌||◌, List, []}
+use Rattle.std.proofs.Common.{◌∷◌, ◌++◌, length, take, Option, Some, None, is_some, nat_eq, refl, ap, sym, subst, inl, inr, ◌∙◌}
+use Rattle.std.proofs.Common.{◌+◌, ◌≤◌, suc, drop, get_or, arith, take-append-drop, drop-cons, IfOk, Result, Ok, Err}
 use Rattle.std.proofs.lemmas.List.{take_more}
 use Rattle.std.specs.Bool.{Decides}
-use Rattle.std.specs.List.{list_any, ends_with, IsDistinct, AllByRecursion}
+use Rattle.std.specs.List.{list_any, ends_with, AllByRecursion}
 use Rattle.std.specs.Str.{bytes_eq}
 use Rattle.std.proofs.lemmas.Bool.{and_parts, or_cases, or_left, or_right}
 use Rattle.std.proofs.lemmas.Bool.Decides.{Decides-eqb}
 use Rattle.std.proofs.lemmas.Slice.Eq.{bytes_eq-Decides, ends_is}
 use Rattle.std.proofs.lemmas.Map.Keys.{IsDistinct-head, IsDistinct-tail}
 use Rattle.commit_record.specs.declared.record.Record.{Record}
-use Rattle.commit_machine.specs.Names.{record_name, staged_name, is_record_name}
-use Rattle.commit_machine.specs.Records.{record_of, record_in, names_of}
-use Rattle.commit_machine.specs.Settled.{Files, Locks, Mem, IsSoundAt}
-use Rattle.commit_machine.proofs.records.Same.{same_refl, same_true, same_or_not, same_false}
+use Rattle.commit_machine.specs.Names.{staged_name}
+use Rattle.commit_machine.specs.Settled.{Files, Locks, Mem}
+use Rattle.commit_machine.proofs.records.Same.{same_or_not, same_false}
 use Rattle.memory_disk.specs.Lists.{lookup, names_of as pair_names, NamesOnce}
-use Rattle.core_steps.proofs.Settled.{both}
 use Rattle.core_steps.specs.declared.actor.Actor.{Actor}
 use Rattle.core_steps.specs.Settling.{standing_in}
-use Rattle.core_steps.specs.Turns.{is_any_record_name}
-use Rattle.core_steps.specs.Starts.{IsGood, IsCarried, IsOwnTaken, IsFoundTaken, IsTaken, MayBegin, IsBadRecord, IsTokenTaken, names_a_record}
+use Rattle.core_steps.specs.Starts.{IsGood, IsCarried, IsOwnTaken, IsFoundTaken, IsTaken, IsBadRecord, IsTokenTaken}
 use Rattle.actor_core.specs.Starting.{LooksGood, token_found, record_tokens, has_token, is_found_of, FindsTaken, Takes, AreFree, AreFit, TakesFirst}
 
 -- a test that an element passes

@@ -2,10 +2,21 @@
 //! them would leave.
 #![tactic(auto)]
 
+mod asking;
+mod closing;
+mod copies;
+mod editing;
 mod error;
+mod folding;
 mod many;
+mod planning;
+mod rewriting;
+mod seeing;
 mod settling;
+mod stand;
 mod starting;
+mod taking;
+mod turning;
 
 pub use core_steps::{Actor, CoreChange, CoreStep, StepKind};
 pub use error::CoreError;

@@ -1,16 +1,20 @@
 // The state of many actors on one disk.
-ghost use Rattle.std.specs.Prelude.{◌≡◌, List, ℕ, IfOk, map};
+ghost use Rattle.std.specs.Prelude.{◌≡◌, List, ℕ, IfOk, OnErr, map};
 ghost use Rattle.memory_disk.specs.Lists.{lookup, NamesOnce};
 ghost use Rattle.core_steps.specs.declared.actor.Doing.TheVariants.{Nothing};
 ghost use Rattle.core_steps.specs.declared.actor.Member.{Member};
-ghost use Rattle.core_steps.specs.Theorem.{settled_files, settled_owners};
-ghost use Rattle.actor_core.specs.Answers.{Begins};
+ghost use Rattle.commit_machine.specs.Settled.{Files};
+ghost use Rattle.core_steps.specs.Theorem.{IsChangedFrom, Settles, settled_files, settled_owners};
+ghost use Rattle.core_steps.specs.Turns.{Passed};
+ghost use Rattle.actor_core.specs.Answers.{Begins, KeepsMessages, Steps};
 ghost use Rattle.actor_core.specs.Shown.{state_shown};
 
 use crate::CoreError;
+use crate::seeing::Lists;
 use crate::settling::settled_view;
 use crate::starting::{first_bad, first_taken};
-use core_steps::{Actor, CoreChange, Doing, Member};
+use crate::taking::take_step;
+use core_steps::{Actor, CoreChange, CoreStep, Doing, Member};
 use host_port::DiskView;
 use mail_text::{Items, Memory, Text};
 use memory_disk::{show_files, show_locks, standing_of};
@@ -22,9 +26,7 @@ use std::marker::Model;
 #[derive(Drop)]
 pub struct Core {
     alloc: Global,
-    files: Items<(Text, Text)>,
-    locks: Items<(Text, u64)>,
-    holders: Items<(Text, u32)>,
+    lists: Lists,
     members: Items<Member>,
     places: Items<(u64, Items<CoreChange>)>,
 }
@@ -35,17 +37,17 @@ impl Model for Core {
     ghost Value = { Held };
 
     ghost view = { λ c. record {
-      files = c.files;
-      locks = c.locks;
-      holders = c.holders;
+      files = c.lists.files;
+      locks = c.lists.locks;
+      holders = c.lists.holders;
       members = c.members;
       places = c.places;
     } };
 
     ghost invariant = { λ c. IsCore (record {
-      files = c.files;
-      locks = c.locks;
-      holders = c.holders;
+      files = c.lists.files;
+      locks = c.lists.locks;
+      holders = c.lists.holders;
       members = c.members;
       places = c.places;
     }) };
@@ -90,12 +92,34 @@ impl Core {
         let members = idle(alloc, actors)?;
         Ok(Core {
             alloc,
-            files: shown.files,
-            locks: shown.locks,
-            holders: Items::new(alloc),
+            lists: Lists {
+                files: shown.files,
+                locks: shown.locks,
+                holders: Items::new(alloc),
+            },
             members,
             places: Items::new(alloc),
         })
+    }
+
+    /// A step of an actor. False if it isn't allowed: the actor isn't one of them or has stopped, it begins in a commit
+    /// or recovery or calls outside one, its release is to fail, it wants memory where none is wanted, or it may not
+    /// commit these changes. Then, and if memory runs out, all is as before.
+    pub fn step(&mut self, step: &CoreStep) -> Result<bool, Memory>
+        ensures steps { IfOk result (λ done. Steps self.old step.now done self.new) }
+        ensures memory { OnErr result (self.new ≡ self.old) }
+        ensures settles { (more : List Passed) × Settles (state_shown self.old) (state_shown self.new) more }
+        ensures whole { (start : Files) → IsChangedFrom start (state_shown self.old)
+            → IsChangedFrom start (state_shown self.new) }
+        ensures stays { KeepsMessages (state_shown self.old) (state_shown self.new) }
+    {
+        take_step(
+            self.alloc,
+            &mut self.lists,
+            &mut self.members,
+            &mut self.places,
+            step,
+        )
     }
 
     /// The files that stand. It takes no memory.
@@ -103,7 +127,7 @@ impl Core {
         ensures files { result.now ≡ self.now.files }
         ensures once { NamesOnce result.now }
     {
-        self.files.items()
+        self.lists.files.items()
     }
 
     /// The commit places that were passed, in order: the token of the actor, and its changes. It takes no memory.
@@ -122,8 +146,8 @@ impl Core {
         settled_view(
             self.alloc,
             self.members.items(),
-            self.files.items(),
-            self.locks.items(),
+            self.lists.files.items(),
+            self.lists.locks.items(),
         )
     }
 }

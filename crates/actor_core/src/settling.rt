@@ -1,56 +1,22 @@
 // What recovery by all actors would make of a disk, name by name.
 ghost use Rattle.std.specs.Prelude.{◌≡◌, ◌++◌, false, None, List, ℕ, IfOk, OnOk, map, if◌then◌else◌};
-ghost use Rattle.std.specs.List.{list_any, flat_map};
+ghost use Rattle.std.specs.List.{flat_map};
 ghost use Rattle.std.specs.Option.{option_copied};
-ghost use Rattle.std.specs.Str.{bytes_eq};
 ghost use Rattle.host_port.specs.Disk.{SameDisk, with_at};
 ghost use Rattle.memory_disk.specs.Lists.{named, lookup, NamesOnce};
 ghost use Rattle.memory_disk.specs.Standings.{disk_now};
-ghost use Rattle.commit_machine.specs.Names.{staged_name};
-ghost use Rattle.commit_machine.specs.Records.{has, is_go};
-ghost use Rattle.commit_machine.specs.Settled.{hides};
+ghost use Rattle.commit_machine.specs.Records.{has};
 ghost use Rattle.core_steps.specs.Settling.{standing_in, puts, hidden_by, placed_by, settled_by, settled_locks_by};
 ghost use Rattle.actor_core.specs.Settling.{names_found, SettlesNames, SettlesLocks, frees, is_freed};
 
-use actor_ground::{settled, standing};
-use commit_machine::{is_record_name, staged_name};
-use commit_record::{Entry, Phase, Record};
+use actor_ground::{hides, is_go, settled, standing};
+use commit_machine::staged_name;
+use commit_record::{Entry, Record};
 use core_steps::Member;
 use host_port::{DiskView, Event};
 use mail_text::{Items, Memory, Text};
 use memory_disk::{Named, Standing, copy_found, effect, show_files, show_locks, standing_of};
 use std::alloc::Global;
-
-// Whether a name is a staged name of one of these entries.
-fn is_staged(alloc: Global, token: u64, entries: &[Entry], name: &[u8]) -> Result<bool, Memory>
-    ensures { IfOk result
-        (λ b. b ≡ list_any (λ n. bytes_eq name.now (staged_name token n)) (map (λ e. e.name) entries.now)) }
-{
-    match entries {
-        [] => Ok(false),
-        [first, rest @ ..] => {
-            let staged = staged_name(alloc, token, first.name.bytes())?;
-            if name == staged.bytes() {
-                Ok(true)
-            } else {
-                is_staged(alloc, token, rest, name)
-            }
-        }
-    }
-}
-
-// Whether a name is left out once the record of an actor is done with.
-fn hides(alloc: Global, actor: &[u8], found: Option<&Record>, name: &[u8]) -> Result<bool, Memory>
-    ensures { IfOk result (λ b. b ≡ hides actor.now (option_copied found.entry) name.now) }
-{
-    if is_record_name(actor, name) {
-        return Ok(true);
-    }
-    match found {
-        None => Ok(false),
-        Some(value) => is_staged(alloc, value.token, value.entries.items(), name),
-    }
-}
 
 // Whether recovery by one of these actors leaves a name out.
 fn is_hidden(
@@ -83,16 +49,6 @@ fn has_name(entries: &[Entry], name: &[u8]) -> bool
     match entries {
         [] => false,
         [first, rest @ ..] => name == first.name.bytes() || has_name(rest, name),
-    }
-}
-
-// Whether a commit was decided.
-fn is_go(value: &Record) -> bool
-    ensures { result ≡ is_go value.now }
-{
-    match value.phase {
-        Phase::Go => true,
-        Phase::Prepare => false,
     }
 }
 

@@ -70,7 +70,8 @@ calls-end-so d (ToSeize n) _ (seizes {got = got} {failed = failed}) agrees withi
 calls-end-so d (ToRelease n) _ releases agrees within = inl refl
 
 -- what a load is answered is so
-seen-agrees : (d : Disk) (n : List ℕ) (file : Option (List ℕ)) → d.files n ≡ file → Agrees d (event.Load n (seen_of file (is_some (d.locks n)))) × LoadFits (event.Load n (seen_of file (is_some (d.locks n))))
+seen-agrees : (d : Disk) (n : List ℕ) (file : Option (List ℕ)) → d.files n ≡ file
+    → Agrees d (event.Load n (seen_of file (is_some (d.locks n)))) × LoadFits (event.Load n (seen_of file (is_some (d.locks n))))
 seen-agrees d n None is = ((sym is, refl), tt)
 seen-agrees d n (Some bytes) is = elim (cases_Bool (nat_le (length bytes) load_limit)) [
   | inl y ↦ (let fits : length bytes ≤ load_limit = leb-true _ _ y in rw y ((sym is, refl), fits))

@@ -93,7 +93,8 @@ module _ (actor : List ℕ) (files : Files) (locks : Locks) (r : Record) (stands
     tested e m = each-of (is_sound_entry actor files locks r.token) r.entries e all m
 
     held : (e : Entry) → Mem e r.entries → is_some (files (staged_name r.token e.name)) ≡ true → (owned_by r.token (locks e.name) && is_long (way_of e) (files e.name)) ≡ true
-    held e m staged = staged-part (is_record_name actor e.name) (is_some (files (staged_name r.token e.name))) (owned_by r.token (locks e.name) && is_long (way_of e) (files e.name)) (tested e m) staged
+    held e m staged = staged-part (is_record_name actor e.name) (is_some (files (staged_name r.token e.name)))
+        (owned_by r.token (locks e.name) && is_long (way_of e) (files e.name)) (tested e m) staged
 
     plain-entry : (e : Entry) → Mem e r.entries → is_record_name actor e.name ≡ false
     plain-entry e m = plain-part (is_record_name actor e.name) (is_some (files (staged_name r.token e.name))) (owned_by r.token (locks e.name) && is_long (way_of e) (files e.name)) (tested e m)
@@ -125,7 +126,8 @@ module _ (actor : List ℕ) (files : Files) (locks : Locks) (r : Record) (stands
     sound-all = record {
       plain = λ other n is go. subst (λ (x : Record). Mem n (names_of x) → is_record_name actor n ≡ false) (one-record other is) (plain-name n);
       locked = λ other n is go. subst (λ (x : Record). Mem n (names_of x) → is_some (files (staged_name x.token n)) ≡ true → locks n ≡ Some x.token) (one-record other is) (locked-name n);
-      long = λ other n at is go. subst (λ (x : Record). Mem n (names_of x) → way_at x n ≡ Extend at → is_some (files (staged_name x.token n)) ≡ true → reaches at (files n) ≡ true) (one-record other is) (long-name n at);
+      long = λ other n at is go. subst (λ (x : Record). Mem n (names_of x) → way_at x n ≡ Extend at → is_some (files (staged_name x.token n)) ≡ true
+          → reaches at (files n) ≡ true) (one-record other is) (long-name n at);
     }
 
   all-sound : IsSoundAt actor files locks → list_all (is_sound_entry actor files locks r.token) r.entries ≡ true
@@ -137,6 +139,7 @@ module _ (actor : List ℕ) (files : Files) (locks : Locks) (r : Record) (stands
       (is-owned r.token (locks e.name) (s.locked r e.name stands decided named staged))
       (is-long (way_of e) (files e.name) (λ at way. s.long r e.name at stands decided named (way-of-entry r.entries e (stands-distinct (files (record_name actor)) r stands) m ∙ way) staged))))
 
-  pub sound-Decides : {E : Type 0} (result : Result Bool E) → IfOk result (λ b. b ≡ list_all (is_sound_entry actor files locks r.token) r.entries) → IfOk result (λ b. Decides b (IsSoundAt actor files locks))
+  pub sound-Decides : {E : Type 0} (result : Result Bool E) → IfOk result (λ b. b ≡ list_all (is_sound_entry actor files locks r.token) r.entries)
+      → IfOk result (λ b. Decides b (IsSoundAt actor files locks))
   sound-Decides (Ok b) is = (λ t. sound-all (sym is ∙ t), λ s. is ∙ all-sound s)
   sound-Decides (Err e) is = tt

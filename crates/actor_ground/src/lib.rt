@@ -8,6 +8,6 @@ mod settling;
 mod soundness;
 
 pub use laws::calls_end_so;
-pub use records::standing;
-pub use settling::{settled, settled_lock};
+pub use records::{is_go, standing};
+pub use settling::{hides, settled, settled_lock};
 pub use soundness::is_sound;

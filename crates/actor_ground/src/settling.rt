@@ -34,8 +34,13 @@ fn is_staged(alloc: Global, token: u64, entries: &[Entry], name: &[u8]) -> Resul
     }
 }
 
-// Whether a name is left out once this record is done with.
-fn hides(alloc: Global, actor: &[u8], found: Option<&Record>, name: &[u8]) -> Result<bool, Memory>
+/// Whether a name is left out once the record of an actor is done with.
+pub fn hides(
+    alloc: Global,
+    actor: &[u8],
+    found: Option<&Record>,
+    name: &[u8],
+) -> Result<bool, Memory>
     ensures { IfOk result (λ b. b ≡ hides actor.now (option_copied found.entry) name.now) }
 {
     if is_record_name(actor, name) {

@@ -80,7 +80,8 @@ with-last : (es : List Entry) (k : Key) (v : Members) → lookup (same_key k.ite
 with-last [] k v none = refl
 with-last (e ∷ es) k v none = go (bytes_eq k.items e.0.items) none (with-last es k v)
   where
-    go : (b : Bool) → (if b then Some e.1 else lookup (same_key k.items) es) ≡ None → (lookup (same_key k.items) es ≡ None → groups_in (es ++ (k, v) ∷ []) ≡ with_members (groups_in es) k.items v.items)
+    go : (b : Bool) → (if b then Some e.1 else lookup (same_key k.items) es) ≡ None
+        → (lookup (same_key k.items) es ≡ None → groups_in (es ++ (k, v) ∷ []) ≡ with_members (groups_in es) k.items v.items)
         → groups_in (e ∷ (es ++ (k, v) ∷ [])) ≡ (if b then (e.0.items, e.1.items ++ v.items) ∷ groups_in es else (e.0.items, e.1.items) ∷ with_members (groups_in es) k.items v.items)
     go true h rest = absurd (cc h)
     go false h rest = ap (λ l. (e.0.items, e.1.items) ∷ l) (rest h)
@@ -88,12 +89,14 @@ with-last (e ∷ es) k v none = go (bytes_eq k.items e.0.items) none (with-last 
 -- what is put first, and then last
 put-first : (cache : Cache) (k : Key) (v : Members) → lookup (same_key k.items) cache.entries ≡ None → length cache.entries < cache.cap → put_entries keys_same cache k v ≡ (k, v) ∷ cache.entries
 put-first cache k v none room =
-    ap (λ (o : Option Entry). option_map_or (λ (e : Entry). (e.0, v) ∷ remove_entry (keys_same k) cache.entries) o ((k, v) ∷ take (cache.cap - 1) cache.entries)) (no-entry (keys_same k) cache.entries none)
+    ap (λ (o : Option Entry). option_map_or (λ (e : Entry). (e.0, v) ∷ remove_entry (keys_same k) cache.entries) o
+    ((k, v) ∷ take (cache.cap - 1) cache.entries)) (no-entry (keys_same k) cache.entries none)
     ∙ ap (λ (es : List Entry). (k, v) ∷ es) (take_all (cache.cap - 1) cache.entries (omega arith))
 
 put-last : (es : List Entry) (k : Key) (v : Members) → demoted (same_key k.items) ((k, v) ∷ es) ≡ es ++ (k, v) ∷ []
 put-last es k v =
-    ap (λ (b : Bool). option_map_or (λ (e : Entry). (if b then es else (k, v) ∷ remove_entry (same_key k.items) es) ++ e ∷ []) (if b then Some (k, v) else lookup_entry (same_key k.items) es) ((k, v) ∷ es)) (same-refl k.items)
+    ap (λ (b : Bool). option_map_or (λ (e : Entry). (if b then es else (k, v) ∷ remove_entry (same_key k.items) es) ++ e ∷ [])
+    (if b then Some (k, v) else lookup_entry (same_key k.items) es) ((k, v) ∷ es)) (same-refl k.items)
 
 pub put-view : (cache : Cache) (k : Key) (v : Members) (name : List ℕ) → k.items ≡ name → is_alias (groups_in cache.entries) name ≡ false → length cache.entries < cache.cap
     → groups_in (demoted (same_key name) (put_entries keys_same cache k v)) ≡ with_members (groups_in cache.entries) name v.items
@@ -106,12 +109,15 @@ put-view cache k v name is none room =
     ∙ ap (λ (n : List ℕ). with_members (groups_in cache.entries) n v.items) is
 
 -- ---- more members
-pub more-view : (es : List Entry) (name : List ℕ) (to : Names) (old new : Members) → lookup (same_key name) es ≡ Some old → new.items ≡ old.items ++ to → groups_in (set_value (same_key name) es new) ≡ with_members (groups_in es) name to
+pub more-view : (es : List Entry) (name : List ℕ) (to : Names) (old new : Members) → lookup (same_key name) es ≡ Some old
+    → new.items ≡ old.items ++ to → groups_in (set_value (same_key name) es new) ≡ with_members (groups_in es) name to
 more-view [] name to old new found is = absurd (cc found)
 more-view (e ∷ es) name to old new found is = go (bytes_eq name e.0.items) found (more-view es name to old new)
   where
-    go : (b : Bool) → (if b then Some e.1 else lookup (same_key name) es) ≡ Some old → (lookup (same_key name) es ≡ Some old → new.items ≡ old.items ++ to → groups_in (set_value (same_key name) es new) ≡ with_members (groups_in es) name to)
-        → groups_in (if b then (e.0, new) ∷ es else e ∷ set_value (same_key name) es new) ≡ (if b then (e.0.items, e.1.items ++ to) ∷ groups_in es else (e.0.items, e.1.items) ∷ with_members (groups_in es) name to)
+    go : (b : Bool) → (if b then Some e.1 else lookup (same_key name) es) ≡ Some old
+        → (lookup (same_key name) es ≡ Some old → new.items ≡ old.items ++ to → groups_in (set_value (same_key name) es new) ≡ with_members (groups_in es) name to)
+        → groups_in (if b then (e.0, new) ∷ es else e ∷ set_value (same_key name) es new)
+        ≡ (if b then (e.0.items, e.1.items ++ to) ∷ groups_in es else (e.0.items, e.1.items) ∷ with_members (groups_in es) name to)
     go true h rest = let own : e.1 ≡ old = cc h in ap (λ (m : Names). (e.0.items, m) ∷ groups_in es) (is ∙ ap (λ (v : Members). v.items ++ to) (sym own))
     go false h rest = ap (λ l. (e.0.items, e.1.items) ∷ l) (rest h is)
 
@@ -119,7 +125,8 @@ pub same-view : (es : List Entry) (name : List ℕ) (old new : Members) → look
 same-view [] name old new found is = refl
 same-view (e ∷ es) name old new found is = go (bytes_eq name e.0.items) found (same-view es name old new)
   where
-    go : (b : Bool) → (if b then Some e.1 else lookup (same_key name) es) ≡ Some old → (lookup (same_key name) es ≡ Some old → new.items ≡ old.items → groups_in (set_value (same_key name) es new) ≡ groups_in es)
+    go : (b : Bool) → (if b then Some e.1 else lookup (same_key name) es) ≡ Some old
+        → (lookup (same_key name) es ≡ Some old → new.items ≡ old.items → groups_in (set_value (same_key name) es new) ≡ groups_in es)
         → groups_in (if b then (e.0, new) ∷ es else e ∷ set_value (same_key name) es new) ≡ (e.0.items, e.1.items) ∷ groups_in es
     go true h rest = let own : e.1 ≡ old = cc h in ap (λ (m : Names). (e.0.items, m) ∷ groups_in es) (is ∙ ap (λ (v : Members). v.items) (sym own))
     go false h rest = ap (λ l. (e.0.items, e.1.items) ∷ l) (rest h is)
@@ -128,7 +135,8 @@ same-view (e ∷ es) name old new found is = go (bytes_eq name e.0.items) found 
 abbrev pub Borrowed : Type 0
 Borrowed = Bor (List ℕ)
 
-pub inside-view : (es : List (Borrowed × Bor Names)) (name : List ℕ) → is_some (lookup (λ (k : Borrowed). bytes_eq name k.now) es) ≡ is_among (keys_of (map (λ (e : Borrowed × Bor Names). (e.0.now, e.1.now)) es)) name
+pub inside-view : (es : List (Borrowed × Bor Names)) (name : List ℕ)
+    → is_some (lookup (λ (k : Borrowed). bytes_eq name k.now) es) ≡ is_among (keys_of (map (λ (e : Borrowed × Bor Names). (e.0.now, e.1.now)) es)) name
 inside-view [] name = refl
 inside-view (e ∷ es) name = go (bytes_eq name e.0.now) (inside-view es name)
   where
@@ -166,11 +174,13 @@ over-push ks k = go (list_any (borrowed_same k) ks) (is_among (map (λ (b : Borr
     go false false e = now-push ks k
 
 -- a walk that is opened
-pub inside-push : (es : List (Borrowed × Bor Names)) (k : Borrowed) (v : Bor Names) → is_among (keys_of (map view es)) k.now ≡ false → map view (insert_entry borrowed_same es k v) ≡ map view es ++ (k.now, v.now) ∷ []
+pub inside-push : (es : List (Borrowed × Bor Names)) (k : Borrowed) (v : Bor Names) → is_among (keys_of (map view es)) k.now ≡ false
+    → map view (insert_entry borrowed_same es k v) ≡ map view es ++ (k.now, v.now) ∷ []
 inside-push [] k v none = refl
 inside-push (e ∷ es) k v none = go (bytes_eq k.now e.0.now) none (inside-push es k v)
   where
-    go : (b : Bool) → (b || is_among (keys_of (map view es)) k.now) ≡ false → (is_among (keys_of (map view es)) k.now ≡ false → map view (insert_entry borrowed_same es k v) ≡ map view es ++ (k.now, v.now) ∷ [])
+    go : (b : Bool) → (b || is_among (keys_of (map view es)) k.now) ≡ false
+        → (is_among (keys_of (map view es)) k.now ≡ false → map view (insert_entry borrowed_same es k v) ≡ map view es ++ (k.now, v.now) ∷ [])
         → map view (if b then (e.0, v) ∷ es else e ∷ insert_entry borrowed_same es k v) ≡ view e ∷ (map view es ++ (k.now, v.now) ∷ [])
     go true h rest = absurd (true≢false h)
     go false h rest = ap (λ l. view e ∷ l) (rest h)

@@ -25,7 +25,8 @@ module _ (s t : List ℕ → Bool) (weight : Names → ℕ) (more : (q : List �
       go false false h rest = omega arith
 
   -- and by the weight of one that has begun now
-  pub fresh-begun : (name : List ℕ) (these : Names) → s name ≡ false → t name ≡ true → (groups : List Group) → members_of groups name ≡ Some these → fresh t weight groups + weight these ≤ fresh s weight groups
+  pub fresh-begun : (name : List ℕ) (these : Names) → s name ≡ false → t name ≡ true → (groups : List Group) → members_of groups name ≡ Some these
+      → fresh t weight groups + weight these ≤ fresh s weight groups
   fresh-begun name these before after [] is = absurd (cc is)
   fresh-begun name these before after (g ∷ gs) is = by (bytes_eq name g.0) refl is (fresh-begun name these before after gs) (fresh-less gs)
     where
@@ -76,7 +77,8 @@ among-split [] name q h = go (bytes_eq q name) h
     go false k = inl k
 among-split (x ∷ xs) name q h = go (bytes_eq q x) h (among-split xs name q)
   where
-    go : (b : Bool) → (b || is_among (xs ++ name ∷ []) q) ≡ true → (is_among (xs ++ name ∷ []) q ≡ true → (is_among xs q ≡ true) ⊎ (bytes_eq q name ≡ true)) → ((b || is_among xs q) ≡ true) ⊎ (bytes_eq q name ≡ true)
+    go : (b : Bool) → (b || is_among (xs ++ name ∷ []) q) ≡ true
+        → (is_among (xs ++ name ∷ []) q ≡ true → (is_among xs q ≡ true) ⊎ (bytes_eq q name ≡ true)) → ((b || is_among xs q) ≡ true) ⊎ (bytes_eq q name ≡ true)
     go true k rest = inl refl
     go false k rest = rest k
 

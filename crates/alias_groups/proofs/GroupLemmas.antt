@@ -19,7 +19,8 @@ pub count-with : (groups : List Group) (name : List ℕ) (to : Names) → member
 count-with [] name to = omega arith
 count-with (g ∷ gs) name to = go (bytes_eq name g.0) (count-with gs name to)
   where
-    go : (b : Bool) → member_count (with_members gs name to) ≡ member_count gs + length to → member_count (if b then (g.0, g.1 ++ to) ∷ gs else g ∷ with_members gs name to) ≡ member_count (g ∷ gs) + length to
+    go : (b : Bool) → member_count (with_members gs name to) ≡ member_count gs + length to
+        → member_count (if b then (g.0, g.1 ++ to) ∷ gs else g ∷ with_members gs name to) ≡ member_count (g ∷ gs) + length to
     go true rest = let all = sum_by-cons count_of g gs in let now = sum_by-cons count_of (g.0, g.1 ++ to) gs in let e = length-append g.1 to in omega arith
     go false rest = let all = sum_by-cons count_of g gs in let now = sum_by-cons count_of g (with_members gs name to) in omega arith
 
@@ -38,11 +39,13 @@ count-without (g ∷ gs) name = go (bytes_eq name g.0) (count-without gs name)
     go false rest = let all = sum_by-cons count_of g gs in let less = sum_by-cons count_of g (without gs name) in omega arith
 
 -- ---- names that are apart
-apart-with : (x : List ℕ) (groups : List Group) (name : List ℕ) (to : Names) → bytes_eq x name ≡ false → AllByRecursion (λ y. bytes_eq x y ≡ false) (keys_of groups) → AllByRecursion (λ y. bytes_eq x y ≡ false) (keys_of (with_members groups name to))
+apart-with : (x : List ℕ) (groups : List Group) (name : List ℕ) (to : Names) → bytes_eq x name ≡ false
+    → AllByRecursion (λ y. bytes_eq x y ≡ false) (keys_of groups) → AllByRecursion (λ y. bytes_eq x y ≡ false) (keys_of (with_members groups name to))
 apart-with x [] name to apart h = (apart, tt)
 apart-with x (g ∷ gs) name to apart h = go (bytes_eq name g.0) (apart-with x gs name to apart h.1)
   where
-    go : (b : Bool) → AllByRecursion (λ y. bytes_eq x y ≡ false) (keys_of (with_members gs name to)) → AllByRecursion (λ y. bytes_eq x y ≡ false) (keys_of (if b then (g.0, g.1 ++ to) ∷ gs else g ∷ with_members gs name to))
+    go : (b : Bool) → AllByRecursion (λ y. bytes_eq x y ≡ false) (keys_of (with_members gs name to))
+        → AllByRecursion (λ y. bytes_eq x y ≡ false) (keys_of (if b then (g.0, g.1 ++ to) ∷ gs else g ∷ with_members gs name to))
     go true rest = h
     go false rest = (h.0, rest)
 
@@ -55,7 +58,8 @@ distinct-with (g ∷ gs) name to h = go (bytes_eq name g.0) refl (distinct-with 
     go true same rest = h
     go false other rest = (apart-with g.0 gs name to (same-symm g.0 name ∙ other) h.0, rest)
 
-apart-without : (x : List ℕ) (groups : List Group) (name : List ℕ) → AllByRecursion (λ y. bytes_eq x y ≡ false) (keys_of groups) → AllByRecursion (λ y. bytes_eq x y ≡ false) (keys_of (without groups name))
+apart-without : (x : List ℕ) (groups : List Group) (name : List ℕ) → AllByRecursion (λ y. bytes_eq x y ≡ false) (keys_of groups)
+    → AllByRecursion (λ y. bytes_eq x y ≡ false) (keys_of (without groups name))
 apart-without x [] name h = tt
 apart-without x (g ∷ gs) name h = go (bytes_eq name g.0) (apart-without x gs name h.1)
   where
@@ -86,7 +90,8 @@ are_with groups name to few are = record { few = (let e = count-with groups name
 pub are_without : (groups : List Group) (name : List ℕ) → AreGroups groups → AreGroups (without groups name)
 are_without groups name are = record { few = (let e = count-without groups name in let f = are.few in omega arith); distinct = distinct-without groups name are.distinct }
 
-pub keeps_with : (old now : List Group) (name : List ℕ) (more to : Names) (members : ℕ) → now ≡ with_members old name more → more ≡ to → AreGroups old → members ≡ member_count old → members + length to ≤ 100000
+pub keeps_with : (old now : List Group) (name : List ℕ) (more to : Names) (members : ℕ) → now ≡ with_members old name more → more ≡ to → AreGroups old
+    → members ≡ member_count old → members + length to ≤ 100000
     → AreGroups now × (members + length to ≡ member_count now)
 keeps_with old now name more to members is same are has room =
     let to-is : now ≡ with_members old name to = is ∙ ap (λ (m : Names). with_members old name m) same in

@@ -40,12 +40,14 @@ apart-left x (g ∷ gs) names h =
     ∙ ap (λ (l : List Group). if not (is_among names g.0) then g ∷ l else l) (apart-left x gs names h.1)
 
 -- one more is taken out
-pick : (g : Group) (left right out : List Group) (b c : Bool) → (c ≡ true → left ≡ right) → out ≡ right → (if not b then (if c then left else g ∷ out) else out) ≡ (if not (b || c) then g ∷ right else right)
+pick : (g : Group) (left right out : List Group) (b c : Bool) → (c ≡ true → left ≡ right) → out ≡ right
+    → (if not b then (if c then left else g ∷ out) else out) ≡ (if not (b || c) then g ∷ right else right)
 pick g left right out true c eq same = same
 pick g left right out false true eq same = eq refl
 pick g left right out false false eq same = ap (λ l. g ∷ l) same
 
-spread : (g : Group) (left : List Group) (x : List ℕ) (b : Bool) → without (if not b then g ∷ left else left) x ≡ (if not b then (if bytes_eq x g.0 then left else g ∷ without left x) else without left x)
+spread : (g : Group) (left : List Group) (x : List ℕ) (b : Bool)
+    → without (if not b then g ∷ left else left) x ≡ (if not b then (if bytes_eq x g.0 then left else g ∷ without left x) else without left x)
 spread g left x true = refl
 spread g left x false = refl
 
@@ -86,11 +88,13 @@ count-these (g ∷ gs) names = go (is_among names g.0) (count-these gs names)
     go true rest = let all = sum_by-cons count_of g gs in omega arith
     go false rest = let all = sum_by-cons count_of g gs in let less = sum_by-cons count_of g (without_these gs names) in omega arith
 
-apart-these : (x : List ℕ) (groups : List Group) (names : Names) → AllByRecursion (λ y. bytes_eq x y ≡ false) (keys_of groups) → AllByRecursion (λ y. bytes_eq x y ≡ false) (keys_of (without_these groups names))
+apart-these : (x : List ℕ) (groups : List Group) (names : Names) → AllByRecursion (λ y. bytes_eq x y ≡ false) (keys_of groups)
+    → AllByRecursion (λ y. bytes_eq x y ≡ false) (keys_of (without_these groups names))
 apart-these x [] names h = tt
 apart-these x (g ∷ gs) names h = go (is_among names g.0) (apart-these x gs names h.1)
   where
-    go : (b : Bool) → AllByRecursion (λ y. bytes_eq x y ≡ false) (keys_of (without_these gs names)) → AllByRecursion (λ y. bytes_eq x y ≡ false) (keys_of (if not b then g ∷ without_these gs names else without_these gs names))
+    go : (b : Bool) → AllByRecursion (λ y. bytes_eq x y ≡ false) (keys_of (without_these gs names))
+        → AllByRecursion (λ y. bytes_eq x y ≡ false) (keys_of (if not b then g ∷ without_these gs names else without_these gs names))
     go true rest = rest
     go false rest = (h.0, rest)
 

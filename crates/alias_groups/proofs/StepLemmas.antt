@@ -17,7 +17,8 @@ use Rattle.alias_groups.proofs.WalkLemmas.{Levels, Names, met-inside, met-name, 
 walked-named : (dropped : Names) (w : Walking) (name : List ℕ) → named dropped (keys_of w.inside) name (walked w) ≡ walked (named_in dropped w name)
 walked-named dropped w name = go (is_within (keys_of w.inside) && has_name dropped name)
   where
-    go : (b : Bool) → (if b then walked w else record (walked w) { added = with_name w.added name }) ≡ record { over = w.over; added = (if b then walked w else record (walked w) { added = with_name w.added name }).added }
+    go : (b : Bool) → (if b then walked w else record (walked w) { added = with_name w.added name })
+        ≡ record { over = w.over; added = (if b then walked w else record (walked w) { added = with_name w.added name }).added }
     go true = refl
     go false = refl
 
@@ -51,7 +52,8 @@ module _ (groups : List Group) (dropped : Names) (w : Walking) (name : List ℕ)
       → 10000 < length (named_in dropped w name).added → IsTooLong groups dropped w (name ∷ left)
   named-long step long =
       let more = unwound-more groups dropped left (walked (named_in dropped w name)) w.inside (suc (length groups)) [] in
-      let count : length (finished groups dropped w (name ∷ left)).added ≡ length (finished groups dropped (named_in dropped w name) left).added = ap (λ (v : Walked). length v.added) (named-same step) in
+      let count : length (finished groups dropped w (name ∷ left)).added ≡ length (finished groups dropped (named_in dropped w name) left).added =
+      ap (λ (v : Walked). length v.added) (named-same step) in
       omega arith
 
   pub next_name : (new : Walking) → members_of groups name ≡ None → new ≡ named_in dropped w name → length new.added ≤ 10000 → IsNext groups dropped w (name ∷ left) new left
@@ -60,10 +62,12 @@ module _ (groups : List Group) (dropped : Names) (w : Walking) (name : List ℕ)
   pub long_name : members_of groups name ≡ None → 10000 < length (named_in dropped w name).added → IsTooLong groups dropped w (name ∷ left)
   long_name none = named-long (λ through. met-name through dropped (keys_of w.inside) name (members_of groups name) (walked w) none)
 
-  pub next_inside : (these : Names) (new : Walking) → members_of groups name ≡ Some these → is_among (keys_of w.inside) name ≡ true → new ≡ named_in dropped w name → length new.added ≤ 10000 → IsNext groups dropped w (name ∷ left) new left
+  pub next_inside : (these : Names) (new : Walking) → members_of groups name ≡ Some these → is_among (keys_of w.inside) name ≡ true
+      → new ≡ named_in dropped w name → length new.added ≤ 10000 → IsNext groups dropped w (name ∷ left) new left
   next_inside these new some inside = named-next (λ through. met-inside through dropped (keys_of w.inside) name (members_of groups name) these (walked w) some inside) new
 
-  pub long_inside : (these : Names) → members_of groups name ≡ Some these → is_among (keys_of w.inside) name ≡ true → 10000 < length (named_in dropped w name).added → IsTooLong groups dropped w (name ∷ left)
+  pub long_inside : (these : Names) → members_of groups name ≡ Some these → is_among (keys_of w.inside) name ≡ true
+      → 10000 < length (named_in dropped w name).added → IsTooLong groups dropped w (name ∷ left)
   long_inside these some inside = named-long (λ through. met-inside through dropped (keys_of w.inside) name (members_of groups name) these (walked w) some inside)
 
   pub next_over : (these : Names) → members_of groups name ≡ Some these → is_among (keys_of w.inside) name ≡ false → is_among w.over name ≡ true → IsNext groups dropped w (name ∷ left) w left
@@ -78,7 +82,8 @@ module _ (groups : List Group) (dropped : Names) (w : Walking) (name : List ℕ)
       → new ≡ opened_in w name left → IsNext groups dropped w (name ∷ left) new these
   next_opened these new some outside fresh-one is =
       let before : has_begun w.inside w.over name ≡ false = ap (λ (b : Bool). b || is_among w.over name) outside ∙ fresh-one in
-      let fewer = λ (weight : Names → ℕ). fresh-begun (has_begun w.inside w.over) (has_begun (w.inside ++ (name, left) ∷ []) w.over) weight (begun-opened w.inside w.over (name, left)) name these before (begun-now w.inside w.over (name, left)) groups some in
+      let fewer = λ (weight : Names → ℕ). fresh-begun (has_begun w.inside w.over) (has_begun (w.inside ++ (name, left) ∷ []) w.over) weight
+      (begun-opened w.inside w.over (name, left)) name these before (begun-now w.inside w.over (name, left)) groups some in
       let ones = fewer one_each in
       let works = fewer steps_of in
       let count = length-append w.inside ((name, left) ∷ []) in
@@ -103,12 +108,17 @@ next_closed groups dropped w left new fits is =
     let count = length-append new.inside (level ∷ []) in
     let sum = sum_by_push (λ (l : List ℕ × Names). steps_of l.1) new.inside level in
     let old-inside = is.inside in
-    let old-ones : fresh (has_begun w.inside w.over) one_each groups ≡ fresh (has_begun (new.inside ++ level ∷ []) w.over) one_each groups = ap (λ (i : Levels). fresh (has_begun i w.over) one_each groups) old-inside in
-    let old-works : fresh (has_begun w.inside w.over) steps_of groups ≡ fresh (has_begun (new.inside ++ level ∷ []) w.over) steps_of groups = ap (λ (i : Levels). fresh (has_begun i w.over) steps_of groups) old-inside in
-    let new-ones : fresh (has_begun new.inside new.over) one_each groups ≡ fresh (has_begun new.inside (with_alias w.over is.name)) one_each groups = ap (λ (o : Names). fresh (has_begun new.inside o) one_each groups) is.over in
-    let new-works : fresh (has_begun new.inside new.over) steps_of groups ≡ fresh (has_begun new.inside (with_alias w.over is.name)) steps_of groups = ap (λ (o : Names). fresh (has_begun new.inside o) steps_of groups) is.over in
+    let old-ones : fresh (has_begun w.inside w.over) one_each groups ≡ fresh (has_begun (new.inside ++ level ∷ []) w.over) one_each groups =
+    ap (λ (i : Levels). fresh (has_begun i w.over) one_each groups) old-inside in
+    let old-works : fresh (has_begun w.inside w.over) steps_of groups ≡ fresh (has_begun (new.inside ++ level ∷ []) w.over) steps_of groups =
+    ap (λ (i : Levels). fresh (has_begun i w.over) steps_of groups) old-inside in
+    let new-ones : fresh (has_begun new.inside new.over) one_each groups ≡ fresh (has_begun new.inside (with_alias w.over is.name)) one_each groups =
+    ap (λ (o : Names). fresh (has_begun new.inside o) one_each groups) is.over in
+    let new-works : fresh (has_begun new.inside new.over) steps_of groups ≡ fresh (has_begun new.inside (with_alias w.over is.name)) steps_of groups =
+    ap (λ (o : Names). fresh (has_begun new.inside o) steps_of groups) is.over in
     let old-count : length w.inside ≡ length (new.inside ++ level ∷ []) = ap (λ (i : Levels). length i) old-inside in
-    let old-sum : sum_by (λ (l : List ℕ × Names). steps_of l.1) w.inside ≡ sum_by (λ (l : List ℕ × Names). steps_of l.1) (new.inside ++ level ∷ []) = ap (λ (i : Levels). sum_by (λ (l : List ℕ × Names). steps_of l.1) i) old-inside in
+    let old-sum : sum_by (λ (l : List ℕ × Names). steps_of l.1) w.inside ≡ sum_by (λ (l : List ℕ × Names). steps_of l.1) (new.inside ++ level ∷ []) =
+    ap (λ (i : Levels). sum_by (λ (l : List ℕ × Names). steps_of l.1) i) old-inside in
     let names : length new.added ≡ length w.added = ap (λ (n : Names). length n) is.added in
     let d = fits.depth in
     let f = fits.few in

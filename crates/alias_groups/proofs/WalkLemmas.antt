@@ -48,7 +48,8 @@ module _ (groups : List Group) (dropped : Names) (name : List ℕ) (left : Names
   unfolding walk
   unwound-met [] zero opened h step = absurd (omega arith)
   unwound-met [] (suc depth) opened h step =
-      let here : met (walk depth groups dropped) dropped opened name (members_of groups name) w ≡ v = ap (λ (o : Names). met (walk depth groups dropped) dropped o name (members_of groups name) w) (sym (append-nil opened)) ∙ step (walk depth groups dropped) in
+      let here : met (walk depth groups dropped) dropped opened name (members_of groups name) w ≡ v =
+      ap (λ (o : Names). met (walk depth groups dropped) dropped o name (members_of groups name) w) (sym (append-nil opened)) ∙ step (walk depth groups dropped) in
       ap (λ (u : Walked). met_all (walk depth groups dropped) groups dropped opened left u) here
   unwound-met (level ∷ levels) zero opened h step = absurd (omega arith)
   unwound-met (level ∷ levels) (suc depth) opened h step =
@@ -57,7 +58,8 @@ module _ (groups : List Group) (dropped : Names) (name : List ℕ) (left : Names
       (λ through. ap (λ (o : Names). met through dropped o name (members_of groups name) w) (inner opened level levels) ∙ step through))
 
   pub unwound-opened : (levels : Levels) (depth : ℕ) (opened : Names) (these : Names) → length levels < depth
-      → ((through : Names → Names → Walked → Walked) → met through dropped (opened ++ keys_of levels) name (members_of groups name) w ≡ closed name (through ((opened ++ keys_of levels) ++ name ∷ []) these w))
+      → ((through : Names → Names → Walked → Walked)
+      → met through dropped (opened ++ keys_of levels) name (members_of groups name) w ≡ closed name (through ((opened ++ keys_of levels) ++ name ∷ []) these w))
       → unwound depth groups dropped opened levels (name ∷ left) w ≡ unwound depth groups dropped opened (levels ++ (name, left) ∷ []) these w
   unfolding walk
   unwound-opened [] zero opened these h step = absurd (omega arith)
@@ -124,7 +126,8 @@ unfolding walk
 walk-more zero groups dropped opened names w = omega arith
 walk-more (suc depth) groups dropped opened names w = met-all-more (walk depth groups dropped) (walk-more depth groups dropped) groups dropped opened names w
 
-pub unwound-more : (groups : List Group) (dropped : Names) (left : Names) (w : Walked) (levels : Levels) (depth : ℕ) (opened : Names) → length w.added ≤ length (unwound depth groups dropped opened levels left w).added
+pub unwound-more : (groups : List Group) (dropped : Names) (left : Names) (w : Walked) (levels : Levels) (depth : ℕ) (opened : Names)
+    → length w.added ≤ length (unwound depth groups dropped opened levels left w).added
 unwound-more groups dropped left w [] depth opened = walk-more depth groups dropped opened left w
 unwound-more groups dropped left w (level ∷ levels) depth opened =
     let within = unwound-more groups dropped left w levels (below depth) (opened ++ level.0 ∷ []) in

@@ -184,14 +184,25 @@ impl Answer {
         }
     }
 
-    /// Puts how what was found differs from what is wanted: the lines of both from the first on that isn't the same.
-    pub fn put_difference(&mut self, wanted: &[u8], found: &Answer) {
+    /// Puts the title of a case, and how what was found differs from what is wanted, if it does: the lines of both from the
+    /// first on that isn't the same.
+    pub fn put_difference(&mut self, title: &str, wanted: &[u8], found: &Answer) {
         let same = count_same(wanted, found.bytes());
+        if has_more(wanted, same) || has_more(found.bytes(), same) {
+            self.put_plain(title.as_bytes());
+            self.put_plain(b"\n");
+        }
         self.put_rest(b"wanted: ", wanted, same);
         self.put_rest(b"found: ", found.bytes(), same);
         if !found.is_whole() {
             self.lack();
         }
+    }
+
+    /// Puts how many cases there were.
+    pub fn put_count(&mut self, cases: u64) {
+        self.put_shown(&cases);
+        self.put_plain(b" cases\n");
     }
 
     // Puts the lines of a text but for the first `count`, each after this head.
@@ -202,6 +213,11 @@ impl Answer {
             self.put_plain(b"\n");
         }
     }
+}
+
+// Whether a text has more than `count` lines.
+fn has_more(bytes: &[u8], count: usize) -> bool {
+    lines(bytes).skip(count).next().is_some()
 }
 
 // How many lines are the same at the start of two texts.

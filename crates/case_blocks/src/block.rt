@@ -84,36 +84,32 @@ pub trait Tells {
     fn tell(&self, case: Case<'_>, out: &mut Answer);
 }
 
-// Puts the title of a block, and how what it tells differs from the lines below its line `want`.
+// Puts how what a block tells differs from the lines below its line `want`, with its title, if it does.
 fn put_block<T: Tells>(program: &T, block: &str, always: &str, out: &mut Answer) {
     let (own, wanted) = block.split_once("\nwant\n").unwrap_or((block, ""));
     let case = first(own, always);
-    put_title(case, out);
     let mut found = Answer::new(out.alloc());
     program.tell(case, &mut found);
-    out.put_difference(wanted.as_bytes(), &found);
+    let title = value_in(own, "case ").unwrap_or("always");
+    out.put_difference(title, wanted.as_bytes(), &found);
 }
 
-/// The title of each block of a text, and how what it tells differs from what it wants.
+/// How what each block of a text tells differs from what it wants, with its title, and how many cases there were.
 pub fn told<T: Tells>(alloc: Global, program: &T, blocks: &str) -> Answer {
     let mut out = Answer::new(alloc);
     let mut always = "";
+    let mut cases = 0u64;
     for block in blocks.split("\n\n") {
         if has_line(block, "always") {
             always = block;
         }
+        if has_line(block, "case ") {
+            cases = cases.saturating_add(1);
+        }
         put_block(program, block, always, &mut out);
     }
+    out.put_count(cases);
     out
-}
-
-// Puts the title of a case as a line.
-fn put_title(case: Case<'_>, out: &mut Answer) {
-    if let Some(title) = value_in(case.own, "case ") {
-        out.put_plain(b"case ");
-        out.put_plain(title.as_bytes());
-        out.put_plain(b"\n");
-    }
 }
 
 // One line of text, at the end of a text.

@@ -19,7 +19,8 @@ among-append (x ∷ xs) y n = ap (λ (b : Bool). (x == n) || b) (among-append xs
     or-assoc false b c = refl
 
 -- a flag more
-pub flags-more : (flags : List Bool) (numbers : List ℕ) (i k : ℕ) → i < length numbers → get_or numbers i 0 ≡ k → k < length flags → AreFlags flags (take i numbers) → AreFlags (slice_set flags k true) (take (i + 1) numbers)
+pub flags-more : (flags : List Bool) (numbers : List ℕ) (i k : ℕ) → i < length numbers → get_or numbers i 0 ≡ k → k < length flags
+    → AreFlags flags (take i numbers) → AreFlags (slice_set flags k true) (take (i + 1) numbers)
 flags-more flags numbers i k within is inside before n =
     ⊎_elim
     (λ same. let e : k ≡ n = eqb-true k n same in

@@ -103,11 +103,13 @@ pub has-dashes : (ws : List (Bor (List ℕ))) (i : ℕ) (d : Bor (List ℕ)) →
 unfolding has_equals
 has-dashes ws i d h t = sym (ap has_equals (has-step ws i d h) ∙ cond-true _ _ _ t)
 
-pub has-hit : (ws : List (Bor (List ℕ))) (i : ℕ) (d : Bor (List ℕ)) → i < length ws → bytes_eq (get_or ws i d).now (45 ∷ 45 ∷ []) ≡ false → is_equals_word (get_or ws i d).now ≡ true → true ≡ has_equals (texts_of (drop i ws))
+pub has-hit : (ws : List (Bor (List ℕ))) (i : ℕ) (d : Bor (List ℕ)) → i < length ws → bytes_eq (get_or ws i d).now (45 ∷ 45 ∷ []) ≡ false
+    → is_equals_word (get_or ws i d).now ≡ true → true ≡ has_equals (texts_of (drop i ws))
 unfolding has_equals
 has-hit ws i d h f t = sym (ap has_equals (has-step ws i d h) ∙ cond-false _ _ _ f ∙ ap (λ (b : Bool). b || has_equals (texts_of (drop (i + 1) ws))) t)
 
-pub has-miss : (ws : List (Bor (List ℕ))) (i : ℕ) (d : Bor (List ℕ)) → i < length ws → bytes_eq (get_or ws i d).now (45 ∷ 45 ∷ []) ≡ false → is_equals_word (get_or ws i d).now ≡ false → has_equals (texts_of (drop (i + 1) ws)) ≡ has_equals (texts_of (drop i ws))
+pub has-miss : (ws : List (Bor (List ℕ))) (i : ℕ) (d : Bor (List ℕ)) → i < length ws → bytes_eq (get_or ws i d).now (45 ∷ 45 ∷ []) ≡ false
+    → is_equals_word (get_or ws i d).now ≡ false → has_equals (texts_of (drop (i + 1) ws)) ≡ has_equals (texts_of (drop i ws))
 unfolding has_equals
 has-miss ws i d h f e = sym (ap has_equals (has-step ws i d h) ∙ cond-false _ _ _ f ∙ ap (λ (b : Bool). b || has_equals (texts_of (drop (i + 1) ws))) e)
 

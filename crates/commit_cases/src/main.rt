@@ -1,6 +1,6 @@
 //! Cases of the host in memory, of changes, records, commits and recoveries, and of mail that is sent. Standard input
-//! has the cases, each with what its lines answer below a line `want`. For each the program prints `case TITLE`, and
-//! how its answers differ if they do.
+//! has the cases, each with what its lines answer below a line `want`. The program prints the
+//! title of each whose answers differ, and how; and last how many cases there were.
 //!
 //! The lines of a case are those of `case_blocks`, and these, which are carried out in their order. A line `do` is a
 //! call of the host or of a library over it; the actor of recoveries and commits is `/h/m`, and their token 1.

@@ -99,7 +99,8 @@ module _ (plan : Plan) (old : Place) (q : IsPlace plan old) (counted : IsCounted
   -- an answer that leads to a step by numbers alone
   by-step : (r : Reply) (s : Step) → Fits n m s → weight s < weight old.step → (is_settled s ≡ false → (is_settled old.step ≡ false) × (is_long r ≡ false))
       → ((before after : ℕ) → Caused before after old.step → ReplyCaused before after r → Caused before after s)
-      → ((j : Job) (t : State) → IsPlan j plan → (IsLastLoad plan old.step r → (j.edits ≡ None) ⊎ IsCommitOf j changes base) → StandsFor j old t → Follows j (at_step old s) (after_reply j t (reply_as r)))
+      → ((j : Job) (t : State) → IsPlan j plan → (IsLastLoad plan old.step r → (j.edits ≡ None) ⊎ IsCommitOf j changes base) → StandsFor j old t
+      → Follows j (at_step old s) (after_reply j t (reply_as r)))
       → (now : Place) → now ≡ at_step old s → After r now
   by-step r s f l u c go now is = subst (After r) (sym is) (record { place = place-step plan old s q f; lighter = l; settled = u; caused = c; follows = go })
 
@@ -107,7 +108,8 @@ module _ (plan : Plan) (old : Place) (q : IsPlace plan old) (counted : IsCounted
   after-went b a now is =
       let ws = ways_of old in
       let s = went_at ws plan.commits n m (recovered_at old.found) old.step b in
-      by-step (reply.Went b) s (fits-went ws plan.commits n m (recovered_at old.found) old.step b (λ e. counted.some e) q.fits a) (lighter-went ws plan.commits n m (recovered_at old.found) old.step b counted.few q.few q.fits a)
+      by-step (reply.Went b) s (fits-went ws plan.commits n m (recovered_at old.found) old.step b (λ e. counted.some e) q.fits a)
+      (lighter-went ws plan.commits n m (recovered_at old.found) old.step b counted.few q.few q.fits a)
       (λ e. (settled-went ws plan.commits n m (recovered_at old.found) old.step b a e, refl))
       (λ before after c x. caused-went before after ws plan.commits n m (recovered_at old.found) old.step b a c)
       (λ j t p for st. (
@@ -161,7 +163,8 @@ module _ (plan : Plan) (old : Place) (q : IsPlace plan old) (counted : IsCounted
       now is
 
   -- a load that runs out of memory
-  short-follows : (j : Job) (s : Step) (t : State) (hidden : Ending) (made : List Made) → IsPlan j plan → Fits n m s → Loads s → state_as j hidden made old.found old.seen old.files s ≡ t → StandsFor j (at_step old (short_at n s)) (wanted j t)
+  short-follows : (j : Job) (s : Step) (t : State) (hidden : Ending) (made : List Made) → IsPlan j plan → Fits n m s → Loads s
+      → state_as j hidden made old.found old.seen old.files s ≡ t → StandsFor j (at_step old (short_at n s)) (wanted j t)
   short-follows j step.Looking t hidden made p f l is =
       record { hidden = NoMemory; wanted = inl refl; made = made; holds = tt; is = ap (wanted j) is }
   short-follows j (step.Testing at) t hidden made p f l is =
@@ -175,7 +178,8 @@ module _ (plan : Plan) (old : Place) (q : IsPlace plan old) (counted : IsCounted
         wanted = inl refl;
         made = made;
         holds = holds-short j plan old NoMemory made p q (step.Loading at);
-        is = unlocking-all j NoMemory made old.found old.seen old.files n (then.Answer end.NoMemory) (files-long j plan p) ∙ sym (ap (λ (xs : List Edit). wanted j (loading j ms xs)) w.1) ∙ ap (wanted j) is;
+        is = unlocking-all j NoMemory made old.found old.seen old.files n (then.Answer end.NoMemory) (files-long j plan p)
+            ∙ sym (ap (λ (xs : List Edit). wanted j (loading j ms xs)) w.1) ∙ ap (wanted j) is;
       }
   short-follows j step.Checking t hidden made p f l is = record { hidden = NoMemory; wanted = inl refl; made = made; holds = tt; is = ap (wanted j) is }
   short-follows j s t hidden made p f l is = absurd l
@@ -194,7 +198,8 @@ module _ (plan : Plan) (old : Place) (q : IsPlace plan old) (counted : IsCounted
     at-looking : (j : Job) (t : State) → StandsFor j old t → Looking ≡ t
     at-looking j t st = sym (ap (state_as j st.hidden st.made old.found old.seen old.files) looking) ∙ st.is
 
-    look-goes : (file : Option (List ℕ)) (now : Place) → Looks plan file old now → (j : Job) (t : State) → IsPlan j plan → (IsLastLoad plan old.step (reply.Saw file) → (j.edits ≡ None) ⊎ IsCommitOf j changes base) → StandsFor j old t → Follows j now (saw j t file)
+    look-goes : (file : Option (List ℕ)) (now : Place) → Looks plan file old now → (j : Job) (t : State) → IsPlan j plan
+        → (IsLastLoad plan old.step (reply.Saw file) → (j.edits ≡ None) ⊎ IsCommitOf j changes base) → StandsFor j old t → Follows j now (saw j t file)
     look-goes file now l j t p for st = subst (λ (z : State). Follows j now (saw j z file)) (at-looking j t st) (look-follows j plan old p q st.hidden st.wanted st.made file now l)
 
     was-open : is_settled old.step ≡ false
@@ -203,7 +208,8 @@ module _ (plan : Plan) (old : Place) (q : IsPlace plan old) (counted : IsCounted
     lighter-than : (s : Step) → weight s < 19 * round → weight s < weight old.step
     lighter-than s l = subst (λ (z : Step). weight s < weight z) (sym looking) l
 
-    look-step : (file : Option (List ℕ)) (s : Step) (now : Place) → Fits n m s → weight s < 19 * round → ((before after : ℕ) → Caused before after s) → now ≡ at_step old s → Looks plan file old now → After (reply.Saw file) now
+    look-step : (file : Option (List ℕ)) (s : Step) (now : Place) → Fits n m s → weight s < 19 * round → ((before after : ℕ) → Caused before after s)
+        → now ≡ at_step old s → Looks plan file old now → After (reply.Saw file) now
     look-step file s now f l c is looks =
         record {
           place = subst (IsPlace plan) (sym is) (place-step plan old s q f);
@@ -219,7 +225,8 @@ module _ (plan : Plan) (old : Place) (q : IsPlace plan old) (counted : IsCounted
         let valid = finds.0.valid in
         let le : length r.entries ≤ length r.entries = omega arith in
         record {
-          fits = of-if (Fits n (length r.entries)) (is_go r) _ _ (λ e. fits-placing (ways_in r.entries []) n (length r.entries) 0 then.GoOn tt) (λ e. fits-undoing n (length r.entries) 0 (length r.entries) (length r.entries) then.GoOn le le tt);
+          fits = of-if (Fits n (length r.entries)) (is_go r) _ _ (λ e. fits-placing (ways_in r.entries []) n (length r.entries) 0 then.GoOn tt)
+              (λ e. fits-undoing n (length r.entries) 0 (length r.entries) (length r.entries) then.GoOn le le tt);
           staged_are = finds.1 ∙ names-staged r.token r.entries;
           few = valid-few r valid;
           distinct = valid-names r valid;
@@ -229,7 +236,9 @@ module _ (plan : Plan) (old : Place) (q : IsPlace plan old) (counted : IsCounted
         }
 
     mending-light : (r : Record) → length r.entries ≤ file_limit → weight (mending_at r) < 19 * round
-    mending-light r few = of-if (λ (s : Step). weight s < 19 * round) (is_go r) _ _ (λ e. under-placing (ways_in r.entries []) (19 * round) 0 (length r.entries) then.GoOn (omega arith)) (λ e. under-undoing (19 * round) 0 (length r.entries) (length r.entries) then.GoOn few (omega arith))
+    mending-light r few = of-if (λ (s : Step). weight s < 19 * round) (is_go r) _ _
+        (λ e. under-placing (ways_in r.entries []) (19 * round) 0 (length r.entries) then.GoOn (omega arith))
+        (λ e. under-undoing (19 * round) 0 (length r.entries) (length r.entries) then.GoOn few (omega arith))
 
     after-found : (bytes : List ℕ) (result : Result Found End) (now : Place) → Finds bytes result → LooksAt result old now → Looks plan (Some bytes) old now → After (reply.Saw (Some bytes)) now
     after-found bytes (Ok found) now finds is looks =
@@ -239,7 +248,8 @@ module _ (plan : Plan) (old : Place) (q : IsPlace plan old) (counted : IsCounted
           lighter = subst (λ (z : Place). weight z.step < weight old.step) (sym is) (lighter-than (mending_at r) (mending-light r (valid-few r finds.0.valid)));
           settled = λ e. (was-open, refl);
           caused = λ before after x y. subst (λ (z : Place). Caused before after z.step) (sym is)
-              (of-if (Caused before after) (is_go r) _ _ (λ e. caused-placing before after (ways_in r.entries []) 0 (length r.entries) then.GoOn tt) (λ e. caused-undoing before after 0 (length r.entries) (length r.entries) then.GoOn tt));
+              (of-if (Caused before after) (is_go r) _ _ (λ e. caused-placing before after (ways_in r.entries []) 0 (length r.entries) then.GoOn tt)
+              (λ e. caused-undoing before after 0 (length r.entries) (length r.entries) then.GoOn tt));
           follows = look-goes (Some bytes) now looks;
         }
     after-found bytes (Err end.NotARecord) now finds is looks = look-step (Some bytes) (step.Releasing end.NotARecord) now tt (omega arith) (λ before after. tt) is looks
@@ -257,7 +267,8 @@ module _ (plan : Plan) (old : Place) (q : IsPlace plan old) (counted : IsCounted
     at-some : at < n
     at-some = subst (Fits n m) at-loading q.fits
 
-    load-goes : (file : Option (List ℕ)) (now : Place) → Takes plan at file changes base old now → (j : Job) (t : State) → IsPlan j plan → (IsLastLoad plan old.step (reply.Saw file) → (j.edits ≡ None) ⊎ IsCommitOf j changes base) → StandsFor j old t → Follows j now (saw j t file)
+    load-goes : (file : Option (List ℕ)) (now : Place) → Takes plan at file changes base old now → (j : Job) (t : State) → IsPlan j plan
+        → (IsLastLoad plan old.step (reply.Saw file) → (j.edits ≡ None) ⊎ IsCommitOf j changes base) → StandsFor j old t → Follows j now (saw j t file)
     load-goes file now (inl more) j t p for st =
         let some : is_some j.edits ≡ true = subst (Holds j st.made old.files old.ways old.go) at-loading st.holds in
         let is = sym (ap (state_as j st.hidden st.made old.found old.seen old.files) at-loading) ∙ st.is in
@@ -295,7 +306,9 @@ module _ (plan : Plan) (old : Place) (q : IsPlace plan old) (counted : IsCounted
     load-place : (s : Step) (fs : List (Option (List ℕ))) (ws : List Way) (go : List ℕ) → Fits n m s → length fs ≡ n → IsPlace plan (record old { step = s; files = fs; ways = ws; go = go })
     load-place s fs ws go f l = record { fits = f; staged_are = q.staged_are; few = q.few; files_are = l; distinct = q.distinct; names = q.names; staged = q.staged }
 
-    load-step : (file : Option (List ℕ)) (s : Step) (fs : List (Option (List ℕ))) (ws : List Way) (go : List ℕ) (now : Place) → Fits n m s → length fs ≡ n → weight s < 9 * round + (file_limit - at) → ((before after : ℕ) → Caused before after s) → now ≡ record old { step = s; files = fs; ways = ws; go = go } → Takes plan at file changes base old now → After (reply.Saw file) now
+    load-step : (file : Option (List ℕ)) (s : Step) (fs : List (Option (List ℕ))) (ws : List Way) (go : List ℕ) (now : Place) → Fits n m s
+        → length fs ≡ n → weight s < 9 * round + (file_limit - at) → ((before after : ℕ) → Caused before after s)
+        → now ≡ record old { step = s; files = fs; ways = ws; go = go } → Takes plan at file changes base old now → After (reply.Saw file) now
     load-step file s fs ws go now f l w c is takes = record {
       place = subst (IsPlace plan) (sym is) (load-place s fs ws go f l);
       lighter = subst (λ (z : Place). weight z.step < weight old.step) (sym is) (subst (λ (z : Step). weight s < weight z) (sym at-loading) w);
@@ -306,37 +319,53 @@ module _ (plan : Plan) (old : Place) (q : IsPlace plan old) (counted : IsCounted
 
     after-loading : (file : Option (List ℕ)) (now : Place) → Takes plan at file changes base old now → After (reply.Saw file) now
     after-loading file now (inl more) =
-        load-step file (step.Loading (at + 1)) (slice_set old.files at file) old.ways old.go now more.0 (length-set old.files at file ∙ q.files_are) (omega (arith, at-some, counted.few)) (λ before after. tt) more.1 (inl more)
+        load-step file (step.Loading (at + 1)) (slice_set old.files at file) old.ways old.go now more.0 (length-set old.files at file ∙ q.files_are)
+        (omega (arith, at-some, counted.few)) (λ before after. tt) more.1 (inl more)
     after-loading file now (inr over) =
         let t = over.1 in
         let s = t.settles in
-        let is : now ≡ record old { step = judged_at n t.result; files = s.made; ways = s.ways; go = s.go } = t.is ∙ ap (λ (x : Place). (let y : Place = record x { step = judged_at n t.result } in y)) s.is in
-        load-step file (judged_at n t.result) s.made s.ways s.go now (judged-fits t.result s.fits) (s.long ∙ length-set old.files at file ∙ q.files_are) (judged-light t.result) (λ before after. judged-caused before after t.result s.fits) is (inr over)
+        let is : now ≡ record old { step = judged_at n t.result; files = s.files; ways = s.ways; go = s.go } =
+        t.is ∙ ap (λ (x : Place). (let y : Place = record x { step = judged_at n t.result } in y)) s.is in
+        load-step file (judged_at n t.result) s.files s.ways s.go now (judged-fits t.result s.fits)
+        (s.long ∙ length-set old.files at file ∙ q.files_are) (judged-light t.result) (λ before after. judged-caused before after t.result s.fits) is (inr over)
 
   -- what a look at the record after a failed decision saw
-  after-checking : (file : Option (List ℕ)) (now : Place) → old.step ≡ step.Checking → (x : Passed) → PassedSo old.go file x → now ≡ at_step old (step.Releasing (end.Failed x)) → After (reply.Saw file) now
+  after-checking : (file : Option (List ℕ)) (now : Place) → old.step ≡ step.Checking → (x : Passed) → PassedSo old.go file x
+      → now ≡ at_step old (step.Releasing (end.Failed x)) → After (reply.Saw file) now
   after-checking file now at x so is =
       by-step (reply.Saw file) (step.Releasing (end.Failed x)) tt (subst (λ (z : Step). round < weight z) (sym at) (omega arith)) (λ e. absurd (false-true e))
       (λ before after c y. subst (Caused before after) at c)
       (λ j t p for st.
       let same = sym (ap (state_as j st.hidden st.made old.found old.seen old.files) at) ∙ st.is in
       let front : take 47 old.go ≡ go_front (moment_of j) j.token = subst (Holds j st.made old.files old.ways old.go) at st.holds in
-      subst (λ (z : State). Follows j (at_step old (step.Releasing (end.Failed x))) (saw j z file)) same (check-follows j plan old p q st.hidden st.wanted st.made file (at_step old (step.Releasing (end.Failed x))) x front so refl))
+      subst (λ (z : State). Follows j (at_step old (step.Releasing (end.Failed x))) (saw j z file)) same
+      (check-follows j plan old p q st.hidden st.wanted st.made file (at_step old (step.Releasing (end.Failed x))) x front so refl))
       now is
 
   -- what a look for the staged file of a removal or an extension saw
-  after-testing : (at : ℕ) (file : Option (List ℕ)) (now : Place) → old.step ≡ step.Testing at → now ≡ record old { step = tested_at (ways_of old) m at (is_some file); seen = file } → After (reply.Saw file) now
+  after-testing : (at : ℕ) (file : Option (List ℕ)) (now : Place) → old.step ≡ step.Testing at
+      → now ≡ record old { step = tested_at (ways_of old) m at (is_some file); seen = file } → After (reply.Saw file) now
   after-testing at file now e is =
       let s = tested_at (ways_of old) m at (is_some file) in
       let l : at < m = subst (Fits n m) e q.fits in
       subst (After (reply.Saw file)) (sym is) (record {
-        place = record { fits = fits-tested (ways_of old) n m at (is_some file) l; staged_are = q.staged_are; few = q.few; files_are = q.files_are; distinct = q.distinct; names = q.names; staged = q.staged };
+        place = record {
+          fits = fits-tested (ways_of old) n m at (is_some file) l;
+          staged_are = q.staged_are;
+          few = q.few;
+          files_are =
+              q.files_are;
+          distinct = q.distinct;
+          names = q.names;
+          staged = q.staged;
+        };
         lighter = subst (λ (z : Step). weight s < weight z) (sym e) (under-tested (ways_of old) m at (is_some file) l q.few);
         settled = λ u. (ap is_settled e, refl);
         caused = λ before after c y. caused-tested before after (ways_of old) m at (is_some file);
         follows = λ j t p for st.
             let same = sym (ap (state_as j st.hidden st.made old.found old.seen old.files) e) ∙ st.is in
-            subst (λ (z : State). Follows j (record old { step = s; seen = file }) (saw j z file)) same (test-follows j plan old p q st.hidden st.wanted st.made at file (record old { step = s; seen = file }) l refl);
+            subst (λ (z : State). Follows j (record old { step = s; seen = file }) (saw j z file)) same
+            (test-follows j plan old p q st.hidden st.wanted st.made at file (record old { step = s; seen = file }) l refl);
       })
 
   after-saw : (file : Option (List ℕ)) (s : Step) (now : Place) → old.step ≡ s → IsAnswer (call_at s) (reply.Saw file) → SawSo plan file changes base old s now → After (reply.Saw file) now

@@ -94,14 +94,20 @@ module _ (j : Job) (plan : Plan) (place : Place) (hidden : Ending) (made : List 
   ways-are (Answer (end.Recovered f)) h at l = absurd h
   ways-are (Answer e) h at l = absurd h
 
-  known-same : (way : Way) (at : ℕ) (bytes : List ℕ) → state_as j hidden made found (Some bytes) place.files (known_at way at) ≡ place_known way found (record (nth_item (found_items found) at) { staged = Some bytes }) (drop (at + 1) (found_items found)) (names_of found) machine.GoOn
+  known-same : (way : Way) (at : ℕ) (bytes : List ℕ)
+      → state_as j hidden made found (Some bytes) place.files (known_at way at)
+      ≡ place_known way found (record (nth_item (found_items found) at) { staged = Some bytes }) (drop (at + 1) (found_items found)) (names_of found) machine.GoOn
   known-same Replace at bytes = refl
   known-same Remove at bytes = refl
   known-same (Extend stays) at bytes = refl
 
-  pub tested-same : (at : ℕ) (file : Option (List ℕ)) → at < entries_of place → state_as j hidden made found file place.files (tested_at (ways_of place) (entries_of place) at (is_some file)) ≡ tested found (nth_item (found_items found) at) (drop (at + 1) (found_items found)) (names_of found) file
+  pub tested-same : (at : ℕ) (file : Option (List ℕ)) → at < entries_of place
+      → state_as j hidden made found file place.files (tested_at (ways_of place) (entries_of place) at (is_some file))
+      ≡ tested found (nth_item (found_items found) at) (drop (at + 1) (found_items found)) (names_of found) file
   tested-same at None l = placing-is j hidden made found None place.files (ways_of place) (at + 1) (entries_of place) GoOn (count GoOn) (λ k m. way-found found.entries k)
-  tested-same at (Some bytes) l = known-same (get_or (map way_of found.entries) at Replace) at bytes ∙ ap (λ (w : Way). place_known w found (record (nth_item (found_items found) at) { staged = Some bytes }) (drop (at + 1) (found_items found)) (names_of found) machine.GoOn) (way-found found.entries at)
+  tested-same at (Some bytes) l = known-same (get_or (map way_of found.entries) at Replace) at bytes
+      ∙ ap (λ (w : Way). place_known w found (record (nth_item (found_items found) at) { staged = Some bytes }) (drop (at + 1) (found_items found))
+      (names_of found) machine.GoOn) (way-found found.entries at)
 
   abbrev Went : Step → Bool → Type 0
   Went s b = at_step (went_at (ways_of place) plan.commits (files_of plan) (entries_of place) (recovered_at found) s b) ≡ went_on j (at_step s) b
@@ -126,7 +132,8 @@ module _ (j : Job) (plan : Plan) (place : Place) (hidden : Ending) (made : List 
   went-staging at b l m =
       let long = made-long j plan made place.files place.ways place.go p m in
       let w = drop-some made at (omega (arith, l, long)) in
-      let taken = take-next (all_of j) at w.0.edit.name (map (λ (x : Made). x.edit.name) (drop (at + 1) made)) (ap (drop at) (sym m.names_are) ∙ drop-map (λ (x : Made). x.edit.name) made at ∙ ap (map (λ (x : Made). x.edit.name)) w.1) in
+      let taken = take-next (all_of j) at w.0.edit.name (map (λ (x : Made). x.edit.name) (drop (at + 1) made))
+      (ap (drop at) (sym m.names_are) ∙ drop-map (λ (x : Made). x.edit.name) made at ∙ ap (map (λ (x : Made). x.edit.name)) w.1) in
       staging-is j hidden made found place.seen place.files (at + 1) (files_of plan) long
       ∙ ap (λ (ns : List (List ℕ)). staging ns made (drop (at + 1) made)) taken
       ∙ sym (ap (λ (ms : List Made). went_on j (staging (take at (all_of j)) made ms) b) w.1)
@@ -183,7 +190,8 @@ module _ (j : Job) (plan : Plan) (place : Place) (hidden : Ending) (made : List 
     fault-same Publishing f h a = refl
     fault-same (Locking at) f h a = let w = edit-at at f in sym (ap (λ (es : List Edit). faulted (locking j (take at (all_of j)) es)) w.1)
     fault-same (Loading at) f h a = let w = edit-at at f in sym (ap (λ (es : List Edit). faulted (loading j (made_from (edits_of j) (take at place.files)) es)) w.1)
-    fault-same (Staging at) f h a = let w = drop-some made at (omega (arith, f, made-long j plan made place.files place.ways place.go p h)) in sym (ap (λ (ms : List Made). faulted (staging (take at (all_of j)) made ms)) w.1)
+    fault-same (Staging at) f h a = let w = drop-some made at (omega (arith, f, made-long j plan made place.files place.ways place.go p h)) in
+        sym (ap (λ (ms : List Made). faulted (staging (take at (all_of j)) made ms)) w.1)
     fault-same Deciding f h a = refl
     fault-same Committing f h a = refl
     fault-same Checking f h a = refl

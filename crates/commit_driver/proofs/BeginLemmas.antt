@@ -32,10 +32,20 @@ module _ (j : Job) (right : List ℕ) (is : right ≡ right_name j.actor) where
   to-seize = ap (λ (n : List ℕ). Some (ToSeize n)) (sym is)
 
   pub begins-taken : (es : List Event) → Did (ToSeize right) (Went true) es → Begins j begun.Taken es
-  begins-taken es did = record { within = did-within (ToSeize right) (Went true) es did; fit = fits-did (ToSeize right) (Went true) es did; goes = goes-call j Seizing (ToSeize right) (Went true) es to-seize did }
+  begins-taken es did = record {
+    within = did-within (ToSeize right) (Went true) es did;
+    fit = fits-did (ToSeize right) (Went true) es did;
+    goes =
+        goes-call j Seizing (ToSeize right) (Went true) es to-seize did;
+  }
 
   pub begins-busy : (es : List Event) → Did (ToSeize right) (Went false) es → Begins j begun.Busy es
-  begins-busy es did = record { within = did-within (ToSeize right) (Went false) es did; fit = fits-did (ToSeize right) (Went false) es did; goes = goes-call j Seizing (ToSeize right) (Went false) es to-seize did }
+  begins-busy es did = record {
+    within = did-within (ToSeize right) (Went false) es did;
+    fit = fits-did (ToSeize right) (Went false) es did;
+    goes =
+        goes-call j Seizing (ToSeize right) (Went false) es to-seize did;
+  }
 
   -- the right is given up at such an end
   pub gives-up : (es : List Event) → Did (ToRelease right) (Went true) es → (e : Ending) → Goes j (Releasing e) es (Ended e)
@@ -52,11 +62,17 @@ module _ (j : Job) (right : List ℕ) (is : right ≡ right_name j.actor) where
 pub timed : (j : Job) (seconds : ℤ) (xs ys : List Event) → Begins (at_time (Some seconds) j) begun.Taken xs → Did (ToAsk seconds) (Went true) ys
     → AreFine (xs ++ ys) × Goes (at_time (Some seconds) j) Seizing (xs ++ ys) Looking
 timed j seconds xs ys began asked =
-    let job = at_time (Some seconds) j in
-    ((within-both xs ys began.within (did-within (ToAsk seconds) (Went true) ys asked), fits-both xs ys began.fit (fits-did (ToAsk seconds) (Went true) ys asked)), stretches_join job Seizing (Timing seconds) Looking xs ys began.goes (goes-call job (Timing seconds) (ToAsk seconds) (Went true) ys refl asked))
+    let job = at_time (Some seconds) j in (
+      (
+        within-both xs ys began.within (did-within (ToAsk seconds) (Went true) ys asked),
+        fits-both xs ys began.fit (fits-did (ToAsk seconds) (Went true) ys asked),
+      ),
+      stretches_join job Seizing (Timing seconds) Looking xs ys began.goes (goes-call job (Timing seconds) (ToAsk seconds) (Went true) ys refl asked),
+    )
 
 -- memory runs out then, and the right is given up
-pub timed-short : (j : Job) (seconds : ℤ) (right : List ℕ) → right ≡ right_name j.actor → (xs ys : List Event) → AreFine xs × Goes (at_time (Some seconds) j) Seizing xs Looking → Did (ToRelease right) (Went true) ys
+pub timed-short : (j : Job) (seconds : ℤ) (right : List ℕ) → right ≡ right_name j.actor → (xs ys : List Event)
+    → AreFine xs × Goes (at_time (Some seconds) j) Seizing xs Looking → Did (ToRelease right) (Went true) ys
     → AreFine (xs ++ ys) × Goes (at_time (Some seconds) j) Seizing (xs ++ ys) (Ended NoMemory)
 timed-short j seconds right is xs ys began released =
     let job = at_time (Some seconds) j in (

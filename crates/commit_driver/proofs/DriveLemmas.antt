@@ -144,7 +144,8 @@ begin j files = record {
   fit = fits-none;
 }
 
-module _ (j : Job) (plan : Plan) (old now : Place) (call : Call) (r : Answer_of) (changes : List Change) (base : List (List ℕ)) (p : IsPlan j plan) (for_it : IsFor j changes base) (q : IsPlace plan old) (next_is : NextOf plan old (Some call)) (after : IsAfter plan r changes base old now) where
+module _ (j : Job) (plan : Plan) (old now : Place) (call : Call) (r : Answer_of) (changes : List Change) (base : List (List ℕ)) (p : IsPlan j plan)
+    (for_it : IsFor j changes base) (q : IsPlace plan old) (next_is : NextOf plan old (Some call)) (after : IsAfter plan r changes base old now) where
   pub one-more : (front more : List Event) → Reached j old front → Performed (call_in plan old call) (reply_as r) more → Reached j now (front ++ more)
   one-more front more a done =
       let c = call_in plan old call in
@@ -152,13 +153,18 @@ module _ (j : Job) (plan : Plan) (old now : Place) (call : Call) (r : Answer_of)
       let is : next j s ≡ Some c = sym (next_is j s p q a.stands) in
       let step = goes-call j s c done.reply more is done.did in
       let joined = stretches_join j Looking s (after_reply j s done.reply) front more a.goes step in
-      let same : after_reply j s (reply_as r) ≡ after_reply j s done.reply = same-after j s (reply_as r) done.reply (subst (λ (o : Option machine.Call). SameReply o (reply_as r) done.reply) (sym is) done.same) in
+      let same : after_reply j s (reply_as r) ≡ after_reply j s done.reply =
+      same-after j s (reply_as r) done.reply (subst (λ (o : Option machine.Call). SameReply o (reply_as r) done.reply) (sym is) done.same) in
       let goes = subst (λ (z : State). Goes j Looking (front ++ more) z) (sym same) joined in
       let f = after.follows j s p (λ last. for_it) a.stands in
       record {
         state = f.0;
         stands = f.2;
-        goes = elim f.1 [ inl e ↦ subst (λ (z : State). Goes j Looking (front ++ more) z) (sym e) goes | inr e ↦ goes-refused j Looking (after_reply j s (reply_as r)) f.0 (front ++ more) (sym e) goes ];
+        goes = elim f.1 [
+          | inl e ↦ subst (λ (z : State). Goes j Looking (front ++ more) z) (sym e) goes
+          | inr e ↦ goes-refused j Looking
+              (after_reply j s (reply_as r)) f.0 (front ++ more) (sym e) goes
+        ];
         within = λ unsettled.
             let u = after.settled unsettled in
             list_any-append is_past_limit front more
@@ -243,7 +249,8 @@ pub record Driving {H : Type 0} (w : World H) (plan : Plan) (changes : List Chan
   pub caused : Caused (w.counts old).disks (w.counts now).disks place.step
   pub ran : (j : Job) → IsPlan j plan → IsFor j changes base → Ran w old now (Reached j place)
 
-pub driving-start : {H : Type 0} {w : World H} {at : H} (plan : Plan) (changes : List Change) (base : List (List ℕ)) (files : List (Option (List ℕ))) → length files ≡ files_of plan → Driving w plan changes base at at (begun files)
+pub driving-start : {H : Type 0} {w : World H} {at : H} (plan : Plan) (changes : List Change) (base : List (List ℕ)) (files : List (Option (List ℕ)))
+    → length files ≡ files_of plan → Driving w plan changes base at at (begun files)
 driving-start plan changes base files long = record {
   place_is = record { fits = tt; staged_are = refl; few = omega arith; files_are = long; distinct = tt; names = All-nil IsFileName; staged = All-nil IsFileName };
   fall = omega arith;
@@ -268,7 +275,8 @@ driving-more {w = w} {old = old} {mid = mid} {now = now} plan changes base place
 
 -- at the end
 pub driven : {H : Type 0} {w : World H} {old now : H} (plan : Plan) (changes : List Change) (base : List (List ℕ)) (place : Place) (result : End)
-    → Driving w plan changes base old now place → call_at place.step ≡ None → ((e : End) → place.step ≡ step.Ended e → result ≡ e) → (j : Job) → IsPlan j plan → IsFor j changes base → Ran w old now (λ es. Drives j place.found es result)
+    → Driving w plan changes base old now place → call_at place.step ≡ None → ((e : End) → place.step ≡ step.Ended e → result ≡ e) → (j : Job)
+    → IsPlan j plan → IsFor j changes base → Ran w old now (λ es. Drives j place.found es result)
 driven plan changes base place result d none is j p f =
     let at = no-call place.step none in
     Ran-map (λ es h. subst (Drives j place.found es) (sym (is at.0 at.1)) (finished j place at.0 es at.1 h)) (d.ran j p f)

@@ -73,7 +73,8 @@ found-count : (n m at : ℕ) (th : Then) → at < count_at n m th → th ≡ GoO
 found-count n m at th l e = subst (λ (z : Then). at < count_at n m z) e l
 
 pub fits-placing : (ways : Ways) (n m at : ℕ) (th : Then) → ThenFits n m th → Fits n m (placing_at ways at (count_at n m th) th)
-fits-placing ways n m at th t = of-placing (Fits n m) ways at (count_at n m th) th (λ a. record { places = (a, t); tests = found-count n m at th a; removes = (a, t); extends = (a, t) }) (λ a. (a, omega arith, t)) t
+fits-placing ways n m at th t = of-placing (Fits n m) ways at (count_at n m th) th
+    (λ a. record { places = (a, t); tests = found-count n m at th a; removes = (a, t); extends = (a, t) }) (λ a. (a, omega arith, t)) t
 
 pub fits-tested : (ways : Ways) (n m at : ℕ) (stands : Bool) → at < m → Fits n m (tested_at ways m at stands)
 fits-tested ways n m at true l = of-known (Fits n m) (ways GoOn at) at (l, tt) (l, tt)
@@ -86,7 +87,8 @@ fits-closed : (n m : ℕ) (found : Found) (th : Then) → ThenFits n m th → Fi
 fits-closed n m found GoOn t = tt
 fits-closed n m found (Answer e) t = t
 
-pub fits-went : (ways : Ways) (commits : Bool) (n m : ℕ) (found : Found) (s : Step) (did : Bool) → (commits ≡ true → 0 < n) → Fits n m s → IsAnswer (call_at s) (reply.Went did) → Fits n m (went_at ways commits n m found s did)
+pub fits-went : (ways : Ways) (commits : Bool) (n m : ℕ) (found : Found) (s : Step) (did : Bool) → (commits ≡ true → 0 < n) → Fits n m s
+    → IsAnswer (call_at s) (reply.Went did) → Fits n m (went_at ways commits n m found s did)
 fits-went ways commits n m found (Undoing at end locks th) did some f a = fits-undoing n m (at + 1) end locks th f.1 f.2 f.3
 fits-went ways commits n m found (Placing at th) did some f a = fits-placing ways n m (at + 1) th f.1
 fits-went ways commits n m found (Removing at th) did some f a = f
@@ -146,7 +148,8 @@ under-testing k at GoOn u e = u
 under-testing k at (Answer a) u e = absurd (cc)
 
 pub under-placing : (ways : Ways) (k at end : ℕ) (th : Then) → (then_rank th + 5) * round + (3 * (file_limit - at) + 2) < k → Under k (placing_at ways at end th)
-under-placing ways k at end th u = of-placing (Under k) ways at end th (λ a. record { places = u; tests = under-testing k at th u; removes = omega (arith, u); extends = omega (arith, u) }) (λ a. omega (arith, u)) (omega (arith, u))
+under-placing ways k at end th u = of-placing (Under k) ways at end th
+    (λ a. record { places = u; tests = under-testing k at th u; removes = omega (arith, u); extends = omega (arith, u) }) (λ a. omega (arith, u)) (omega (arith, u))
 
 pub under-tested : (ways : Ways) (m at : ℕ) (stands : Bool) → at < m → m ≤ file_limit → Under (weight (Testing at)) (tested_at ways m at stands)
 under-tested ways m at true l few = of-known (Under (weight (Testing at))) (ways GoOn at) at (omega arith) (omega arith)
@@ -166,7 +169,8 @@ lighter-closed : (found : Found) (th : Then) → Under (weight (Erasing th)) (cl
 lighter-closed found GoOn = omega arith
 lighter-closed found (Answer e) = omega arith
 
-pub lighter-went : (ways : Ways) (commits : Bool) (n m : ℕ) (found : Found) (s : Step) (did : Bool) → n ≤ file_limit → m ≤ file_limit → Fits n m s → IsAnswer (call_at s) (reply.Went did) → weight (went_at ways commits n m found s did) < weight s
+pub lighter-went : (ways : Ways) (commits : Bool) (n m : ℕ) (found : Found) (s : Step) (did : Bool) → n ≤ file_limit → m ≤ file_limit → Fits n m s
+    → IsAnswer (call_at s) (reply.Went did) → weight (went_at ways commits n m found s did) < weight s
 lighter-went ways commits n m found (Undoing at end locks th) did fn fm f a =
     let few = count-few n m th fn fm in let lt = f.0 in let le = f.1 in under-undoing (weight (Undoing at end locks th)) (at + 1) end locks th (omega (arith, few, le)) (omega (arith, few, le, lt))
 lighter-went ways commits n m found (Placing at th) did fn fm f a =
@@ -254,7 +258,8 @@ kept-closed : (found : Found) (th : Then) → Kept th (closed_at found th)
 kept-closed found GoOn = refl
 kept-closed found (Answer e) = refl
 
-pub settled-went : (ways : Ways) (commits : Bool) (n m : ℕ) (found : Found) (s : Step) (did : Bool) → IsAnswer (call_at s) (reply.Went did) → is_settled (went_at ways commits n m found s did) ≡ false → is_settled s ≡ false
+pub settled-went : (ways : Ways) (commits : Bool) (n m : ℕ) (found : Found) (s : Step) (did : Bool) → IsAnswer (call_at s) (reply.Went did)
+    → is_settled (went_at ways commits n m found s did) ≡ false → is_settled s ≡ false
 settled-went ways commits n m found (Undoing at end locks th) did a e = sym (of-undoing (Kept th) (at + 1) end locks th (λ x. refl) (λ x. refl) refl) ∙ e
 settled-went ways commits n m found (Placing at th) did a e = kept-placing ways (at + 1) (count_at n m th) th e
 settled-went ways commits n m found (Removing at th) did a e = e
@@ -303,7 +308,8 @@ module _ (before after : ℕ) where
   caused-closed found GoOn c = tt
   caused-closed found (Answer e) c = c
 
-  pub caused-went : (ways : Ways) (commits : Bool) (n m : ℕ) (found : Found) (s : Step) (did : Bool) → IsAnswer (call_at s) (reply.Went did) → Caused before after s → Caused before after (went_at ways commits n m found s did)
+  pub caused-went : (ways : Ways) (commits : Bool) (n m : ℕ) (found : Found) (s : Step) (did : Bool) → IsAnswer (call_at s) (reply.Went did)
+      → Caused before after s → Caused before after (went_at ways commits n m found s did)
   caused-went ways commits n m found (Undoing at end locks th) did a c = caused-undoing (at + 1) end locks th c
   caused-went ways commits n m found (Placing at th) did a c = caused-placing ways (at + 1) (count_at n m th) th c
   caused-went ways commits n m found (Removing at th) did a c = c

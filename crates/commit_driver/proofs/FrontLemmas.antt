@@ -12,5 +12,6 @@ front-cut go front m is cut = elim (cases_lt 47 (length go)) [
 ]
 
 -- what stands begins so, or doesn't
-pub passed-so : (bytes front go : List ℕ) (m : ℕ) (b : Bool) → m ≡ min (length go) 47 → front ≡ take m go → starts_with nat_eq bytes front ≡ b → (if b then After else Before) ≡ (if starts_with nat_eq bytes (take 47 go) then After else Before)
+pub passed-so : (bytes front go : List ℕ) (m : ℕ) (b : Bool) → m ≡ min (length go) 47 → front ≡ take m go → starts_with nat_eq bytes front ≡ b
+    → (if b then After else Before) ≡ (if starts_with nat_eq bytes (take 47 go) then After else Before)
 passed-so bytes front go m b is cut begins = ap (λ (x : Bool). if x then After else Before) (sym begins ∙ ap (starts_with nat_eq bytes) (front-cut go front m is cut))

@@ -26,7 +26,10 @@ use Rattle.commit_driver.proofs.SawLemmas.{AreNamed, length-set}
 
 pub are-named : (names : List (List ℕ)) (cs : List Change) → All (λ c. has names (name_of c) ≡ true) cs → AreNamed names cs
 are-named names [] all = tt
-are-named names (c ∷ cs) all = (has_Mem names (name_of c) (All-head (λ (c : Change). has names (name_of c) ≡ true) c cs all), are-named names cs (All-tail (λ (c : Change). has names (name_of c) ≡ true) c cs all))
+are-named names (c ∷ cs) all = (
+  has_Mem names (name_of c) (All-head (λ (c : Change). has names (name_of c) ≡ true) c cs all),
+  are-named names cs (All-tail (λ (c : Change). has names (name_of c) ≡ true) c cs all),
+)
 
 -- the number of a name that is among names
 number-here : (n : List ℕ) (ns : List (List ℕ)) (name : List ℕ) → bytes_eq name n ≡ true → number_in (n ∷ ns) name ≡ 0
@@ -72,7 +75,8 @@ not-among (n ∷ ns) name files file h =
     ap (λ (f : Option (List ℕ)). f ∷ map (put files name file) ns) (put-other files name n file other) ∙ ap (λ (fs : List (Option (List ℕ))). files n ∷ fs) (not-among ns name files file b.1)
 
 -- the file of a name is set
-number-set : (ns : List (List ℕ)) (name : List ℕ) (files : Files) (file : Option (List ℕ)) → AreDistinct ns → has ns name ≡ true → slice_set (map files ns) (number_in ns name) file ≡ map (put files name file) ns
+number-set : (ns : List (List ℕ)) (name : List ℕ) (files : Files) (file : Option (List ℕ)) → AreDistinct ns → has ns name ≡ true
+    → slice_set (map files ns) (number_in ns name) file ≡ map (put files name file) ns
 number-set [] name files file d h = absurd (cc)
 number-set (n ∷ ns) name files file d h = elim (cases_Bool (bytes_eq name n)) [
   | inl y ↦
@@ -120,21 +124,25 @@ module _ (first : Change) (rest : List Change) (base : List (List ℕ)) (names :
   on files seen o is out =
       sym (ap (λ (f : Option (List ℕ)). outcome_of f first base) (ap (λ (fs : List (Option (List ℕ))). get_or fs at None) is ∙ number-file names (name_of first) files among)) ∙ out
 
-  refused-first : (files : Files) (o : Result (Option (List ℕ)) ℕ) (r : Option ChangeRefusal) → outcome_on files first base ≡ o → refusal_of (name_of first) o ≡ r → first_refusal (first ∷ rest) base files ≡ or_else r (first_refusal rest base (after files first base))
+  refused-first : (files : Files) (o : Result (Option (List ℕ)) ℕ) (r : Option ChangeRefusal) → outcome_on files first base ≡ o
+      → refusal_of (name_of first) o ≡ r → first_refusal (first ∷ rest) base files ≡ or_else r (first_refusal rest base (after files first base))
   unfolding first_refusal
   refused-first files o r is made = ap (λ (x : Option ChangeRefusal). or_else x (first_refusal rest base (after files first base))) (ap (refusal_of (name_of first)) is ∙ made)
 
   made-after : (files : Files) (file : Option (List ℕ)) → outcome_on files first base ≡ Ok file → after files first base ≡ put files (name_of first) file
   made-after files file is = ap (put_outcome files (name_of first)) is
 
-  so-more : (files : Files) (result : Result Unit Trouble) (now : List (Option (List ℕ))) → first_refusal (first ∷ rest) base files ≡ first_refusal rest base (after files first base) → JudgesSo rest base names (after files first base) result now → JudgesSo (first ∷ rest) base names files result now
+  so-more : (files : Files) (result : Result Unit Trouble) (now : List (Option (List ℕ)))
+      → first_refusal (first ∷ rest) base files ≡ first_refusal rest base (after files first base)
+      → JudgesSo rest base names (after files first base) result now → JudgesSo (first ∷ rest) base names files result now
   unfolding apply
   so-more files (Ok u) now e so = (e ∙ so.0, so.1)
   so-more files (Err (trouble.Changed k m)) now e so = e ∙ so
   so-more files (Err (trouble.TooLarge k m)) now e so = e ∙ so
   so-more files (Err trouble.Memory) now e so = tt
 
-  judged-more : (seen mid now : List (Option (List ℕ))) (u : Unit) (result : Result Unit Trouble) → JudgesOne first base at seen (Ok u) mid → Judges rest base names mid result now → Judges (first ∷ rest) base names seen result now
+  judged-more : (seen mid now : List (Option (List ℕ))) (u : Unit) (result : Result Unit Trouble) → JudgesOne first base at seen (Ok u) mid
+      → Judges rest base names mid result now → Judges (first ∷ rest) base names seen result now
   judged-more seen mid now u result one more files d is =
       let file = one.0 in
       let out = on files seen (Ok file) is one.1 in
@@ -176,7 +184,8 @@ judged-end changes base names seen now k h so =
     so.all (Ok tt) now (subst (λ (cs : List Change). Judges cs base names now (Ok tt) now) (sym (drop_of_length-le changes h)) (judged-none base names now))
 
 -- the change with this number is made, or it can't be
-module _ (changes : List Change) (base names : List (List ℕ)) (seen now mid : List (Option (List ℕ))) (k at : ℕ) (first : Change) (within : k < length changes) (is : first ≡ get_or changes k first) (named : All (λ c. has names (name_of c) ≡ true) changes) (number : at ≡ number_in names (name_of first)) where
+module _ (changes : List Change) (base names : List (List ℕ)) (seen now mid : List (Option (List ℕ))) (k at : ℕ) (first : Change)
+    (within : k < length changes) (is : first ≡ get_or changes k first) (named : All (λ c. has names (name_of c) ≡ true) changes) (number : at ≡ number_in names (name_of first)) where
   among : has names (name_of first) ≡ true
   among = subst (λ (c : Change). has names (name_of c) ≡ true) (sym is) (All-get_or (λ (c : Change). has names (name_of c) ≡ true) changes k first within named)
 

@@ -22,19 +22,17 @@ use Rattle.commit_driver.specs.declared.step.Step.TheVariants.{Looking, Undoing,
 use Rattle.commit_driver.specs.declared.place.Plan.{Plan}
 use Rattle.commit_driver.specs.declared.place.Place.{Place}
 use Rattle.commit_driver.specs.Steps.{call_at, count_at, staged_at, file_at, Fits}
-use Rattle.commit_driver.specs.Places.{nth, name_in, content_at, contents_in, PlacesSo, call_in, files_of, entries_of, made_from, own_record, record_as, names_as, items_as, nth_item, item_seen, state_as, IsMade, Holds, IsPlan, IsPlace, NextOf}
+use Rattle.commit_driver.specs.Places.{nth, name_in, content_at, PlacesSo, call_in, files_of, entries_of, made_from, own_record, record_as, names_as, items_as, nth_item, item_seen, state_as, IsMade, Holds, IsPlan, IsPlace, NextOf}
 use Rattle.commit_driver.proofs.StateLemmas.{drop-some, nth-drop, nth-map, length-map, unlocking-view, undoing-view}
 use Rattle.commit_driver.proofs.WayLemmas.{name-found, name-made, way-found, item-made, get-map, made-found}
 
 pub nth-of : (f : List ℕ → List ℕ) (xs : List (List ℕ)) (at : ℕ) → at < length xs → nth (map f xs) at ≡ f (nth xs at)
 nth-of f xs at l = let w = drop-some xs at l in nth-map f xs at w.0 (drop (at + 1) xs) w.1 ∙ ap f (sym (nth-drop xs at w.0 (drop (at + 1) xs) w.1))
 
-content-nth : (files : List (Option (List ℕ))) (ways : List Way) (at : ℕ) → length ways ≡ length files → content_at files ways at ≡ nth (contents_in files ways) at
-content-nth [] [] at l = refl
-content-nth [] (w ∷ ws) at l = absurd (omega (arith, l))
-content-nth (f ∷ fs) [] at l = absurd (omega (arith, l))
-content-nth (f ∷ fs) (w ∷ ws) zero l = refl
-content-nth (f ∷ fs) (w ∷ ws) (suc at) l = content-nth fs ws at (omega (arith, l))
+content-nth : (files : List (Option (List ℕ))) (at : ℕ) → content_at files at ≡ nth (map bytes_of files) at
+content-nth [] at = refl
+content-nth (f ∷ fs) zero = refl
+content-nth (f ∷ fs) (suc at) = content-nth fs at
 
 own-token : (j : Job) (made : List Made) (e : End) → (own_record j made e).token ≡ j.token
 own-token j made end.Done = refl
@@ -88,7 +86,8 @@ module _ (j : Job) (plan : Plan) (place : Place) (hidden : Ending) (made : List 
   own-file at = ap (λ (ns : List (List ℕ)). nth ns at) p.names_are
 
   next-undoing : (at end locks : ℕ) (th : Then) → at < end → end ≤ length (names_as j found th) → Same (Undoing at end locks th)
-  next-undoing at end locks th l m = ap (λ (n : List ℕ). Some (machine.ToErase n)) (staged-is th at (omega (arith, l, m))) ∙ sym (ap (next j) (undoing-view j hidden made found place.seen place.files at end locks th l m))
+  next-undoing at end locks th l m = ap (λ (n : List ℕ). Some (machine.ToErase n)) (staged-is th at (omega (arith, l, m)))
+      ∙ sym (ap (next j) (undoing-view j hidden made found place.seen place.files at end locks th l m))
 
   next-placing : (at : ℕ) (th : Then) → at < length (names_as j found th) → Same (Placing at th)
   next-placing at th l =
@@ -125,24 +124,23 @@ module _ (j : Job) (plan : Plan) (place : Place) (hidden : Ending) (made : List 
       ap (λ (n : List ℕ). Some (machine.ToLoad n)) (own-file at ∙ nth-map (λ (e : Edit). e.name) (edits_of j) at w.0 (drop (at + 1) (edits_of j)) w.1)
       ∙ sym (ap (λ (es : List Edit). next j (loading j (made_from (edits_of j) (take at place.files)) es)) w.1)
 
-  -- as many ways are settled as there are files
-  own-long : IsMade j made place.files place.ways place.go → length place.ways ≡ length place.files
-  own-long m = ap length m.ways_are ∙ length-map (λ (x : Made). x.way) made ∙ sym (made-long j plan made place.files place.ways place.go p m) ∙ sym q.files_are
-
   -- one of what was made is put in place as it was made
-  own-item : (at : ℕ) → at < files_of plan → (m : IsMade j made place.files place.ways place.go) → (w : Made) × (nth_item (made_items j made) at ≡ record { name = w.edit.name; way = w.way; staged = Some w.content }) × (nth (all_of j) at ≡ w.edit.name) × (get_or place.ways at Replace ≡ w.way) × (content_at place.files place.ways at ≡ w.content)
+  own-item : (at : ℕ) → at < files_of plan → (m : IsMade j made place.files place.ways place.go)
+      → (w : Made) × (nth_item (made_items j made) at ≡ record { name = w.edit.name; way = w.way; staged = Some w.content })
+      × (nth (all_of j) at ≡ w.edit.name) × (get_or place.ways at Replace ≡ w.way) × (content_at place.files at ≡ w.content)
   own-item at l m =
       let w = drop-some made at (omega (arith, l, made-long j plan made place.files place.ways place.go p m)) in
       let rest = drop (at + 1) made in
       let name : nth (all_of j) at ≡ w.0.edit.name = ap (λ (ns : List (List ℕ)). nth ns at) (sym m.names_are) ∙ nth-map (λ (x : Made). x.edit.name) made at w.0 rest w.1 in
       let found : made_at made (nth (all_of j) at) ≡ Some w.0 = ap (made_at made) name ∙ made-found made at w.0 rest (subst AreDistinct (sym m.names_are) m.distinct) w.1 in
       let item : nth_item (made_items j made) at ≡ made_item made (nth (all_of j) at) = item-made made (all_of j) at (omega (arith, l, files-long j plan p)) in
-      let so : made_item made (nth (all_of j) at) ≡ record { name = nth (all_of j) at; way = w.0.way; staged = Some w.0.content } = ap (λ (o : Option Made). (let x : Item = record { name = nth (all_of j) at; way = way_made o; staged = content_made o } in x)) found in (
+      let so : made_item made (nth (all_of j) at) ≡ record { name = nth (all_of j) at; way = w.0.way; staged = Some w.0.content } =
+      ap (λ (o : Option Made). (let x : Item = record { name = nth (all_of j) at; way = way_made o; staged = content_made o } in x)) found in (
         w.0,
         item ∙ so ∙ ap (λ (n : List ℕ). (let x : Item = record { name = n; way = w.0.way; staged = Some w.0.content } in x)) name,
         name,
         ap (λ (ws : List Way). get_or ws at Replace) m.ways_are ∙ get-map (λ (x : Made). x.way) Replace made at w.0 rest w.1,
-        content-nth place.files place.ways at (own-long m) ∙ ap (λ (ns : List (List ℕ)). nth ns at) m.contents_are ∙ nth-map (λ (x : Made). x.content) made at w.0 rest w.1,
+        content-nth place.files at ∙ ap (λ (ns : List (List ℕ)). nth ns at) m.contents_are ∙ nth-map (λ (x : Made). x.content) made at w.0 rest w.1,
       )
 
   next-extending : (at : ℕ) (th : Then) → at < count_at (files_of plan) (entries_of place) th → PlacesSo j made place.files place.ways place.go th → Same (Extending at th)
@@ -151,8 +149,8 @@ module _ (j : Job) (plan : Plan) (place : Place) (hidden : Ending) (made : List 
       ∙ ap (λ (w : Way). Some (machine.ToExtend (nth_item (found_items found) at).name (stay w) (bytes_of place.seen))) (way-found found.entries at)
   next-extending at (Answer end.Done) l m =
       let w = own-item at l m in
-      ap (λ (n : List ℕ). Some (machine.ToExtend n (stay (get_or place.ways at Replace)) (content_at place.files place.ways at))) (own-file at ∙ w.2)
-      ∙ ap (λ (v : Way). Some (machine.ToExtend w.0.edit.name (stay v) (content_at place.files place.ways at))) w.3
+      ap (λ (n : List ℕ). Some (machine.ToExtend n (stay (get_or place.ways at Replace)) (content_at place.files at))) (own-file at ∙ w.2)
+      ∙ ap (λ (v : Way). Some (machine.ToExtend w.0.edit.name (stay v) (content_at place.files at))) w.3
       ∙ ap (λ (b : List ℕ). Some (machine.ToExtend w.0.edit.name (stay w.0.way) b)) w.4
       ∙ sym (ap (λ (x : Item). Some (machine.ToExtend x.name (stay x.way) (bytes_of x.staged))) w.1)
   next-extending at (Answer e) l h = absurd h
@@ -165,10 +163,10 @@ module _ (j : Job) (plan : Plan) (place : Place) (hidden : Ending) (made : List 
       ∙ nth-of (staged_name j.token) (all_of j) at (omega (arith, l, files-long j plan p))
       ∙ ap (staged_name j.token) (ap (λ (ns : List (List ℕ)). nth ns at) (sym m.names_are) ∙ nth-map (λ (x : Made). x.edit.name) made at w.0 (drop (at + 1) made) w.1)
       in
-      let content : content_at place.files place.ways at ≡ w.0.content =
-      content-nth place.files place.ways at (own-long m) ∙ ap (λ (ns : List (List ℕ)). nth ns at) m.contents_are ∙ nth-map (λ (x : Made). x.content) made at w.0 (drop (at + 1) made) w.1
+      let content : content_at place.files at ≡ w.0.content =
+      content-nth place.files at ∙ ap (λ (ns : List (List ℕ)). nth ns at) m.contents_are ∙ nth-map (λ (x : Made). x.content) made at w.0 (drop (at + 1) made) w.1
       in
-      ap (λ (n : List ℕ). Some (machine.ToStage n (content_at place.files place.ways at))) name
+      ap (λ (n : List ℕ). Some (machine.ToStage n (content_at place.files at))) name
       ∙ ap (λ (b : List ℕ). Some (machine.ToStage (staged_name j.token w.0.edit.name) b)) content
       ∙ sym (ap (λ (ms : List Made). next j (staging (take at (all_of j)) made ms)) w.1)
 

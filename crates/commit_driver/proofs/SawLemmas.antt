@@ -9,7 +9,7 @@ use Rattle.std.specs.List.{starts_with}
 use Rattle.std.specs.Option.{option_map}
 use Rattle.std.specs.Str.{bytes_eq}
 use Rattle.std.proofs.lemmas.Bool.{cases_Bool}
-use Rattle.std.proofs.lemmas.List.{take_all}
+use Rattle.std.proofs.lemmas.List.{take_all, drop_all}
 use Rattle.folder_change.specs.declared.change.Change.{Change}
 use Rattle.folder_change.specs.Changes.{name_of}
 use Rattle.folder_change.specs.Outcomes.{bytes_of}
@@ -47,7 +47,7 @@ use Rattle.commit_driver.specs.declared.place.Plan.{Plan}
 use Rattle.commit_driver.specs.declared.place.Place.{Place}
 use Rattle.commit_driver.specs.Steps.{unlocking_at, tested_at}
 use Rattle.commit_driver.specs.Judging.{JudgesSo}
-use Rattle.commit_driver.specs.Places.{nth, files_of, entries_of, tail_at, tails_for, file_way, file_ways, contents_in, ways_in, ways_of, nth_item, decided_entries, decided_record, outcome_way, passed_as, made_by, made_from, outcome_content, state_as, end_as, own_record, MayHide, WantedAs, IsMade, Holds, IsPlan, IsPlace, StandsFor}
+use Rattle.commit_driver.specs.Places.{nth, files_of, entries_of, tail_at, tails_for, file_way, file_ways, part_of, parts_of, ways_in, ways_of, nth_item, decided_entries, decided_record, outcome_way, passed_as, made_by, made_from, outcome_content, state_as, end_as, own_record, MayHide, WantedAs, IsMade, Holds, IsPlan, IsPlace, StandsFor}
 use Rattle.commit_driver.specs.Answers.{mending_at, judged_at, Finds, PassedSo, at_step, LooksAt, Looks, TakesAll, IsCommitOf, Follows}
 use Rattle.commit_driver.proofs.StateLemmas.{drop-some, length-map, none-left, loaded-by, made-more, placing-is, undoing-is, unlocking-all, staging-is}
 use Rattle.commit_driver.proofs.WayLemmas.{way-found, ways-by-name, decided-are}
@@ -95,7 +95,9 @@ mending-is j hidden made r seen files = elim (cases_Bool (is_go r)) [
 
 holds-mending : (j : Job) (plan : Plan) (place : Place) (made : List Made) (p : IsPlan j plan) (q : IsPlace plan place) (r : Record) → Holds j made place.files place.ways place.go (mending_at r)
 holds-mending j plan place made p q r =
-    of-if (Holds j made place.files place.ways place.go) (is_go r) _ _ (λ e. holds-placing j plan place NoMemory made p q (ways_in r.entries []) 0 (length r.entries) then.GoOn tt) (λ e. holds-undoing j plan place NoMemory made p q 0 (length r.entries) (length r.entries) then.GoOn)
+    of-if (Holds j made place.files place.ways place.go) (is_go r) _ _
+    (λ e. holds-placing j plan place NoMemory made p q (ways_in r.entries []) 0 (length r.entries) then.GoOn tt)
+    (λ e. holds-undoing j plan place NoMemory made p q 0 (length r.entries) (length r.entries) then.GoOn)
 
 module _ (j : Job) (plan : Plan) (old : Place) (p : IsPlan j plan) (q : IsPlace plan old) (hidden : Ending) (wanted : WantedAs (all_of j) hidden) (made : List Made) where
   stands : (w : Ending) (s : Step) → WantedAs (all_of j) w → Holds j made old.files old.ways old.go s → StandsFor j (at_step old s) (state_as j w made old.found old.seen old.files s)
@@ -106,7 +108,8 @@ module _ (j : Job) (plan : Plan) (old : Place) (p : IsPlan j plan) (q : IsPlace 
 
   look-end : (bytes : List ℕ) (e : End) → Finds bytes (Err e) → Follows j (at_step old (step.Releasing e)) (looked j (Some bytes))
   look-end bytes end.NotARecord none =
-      subst (λ (o : Option Record). Follows j (at_step old (step.Releasing end.NotARecord)) (record_seen o)) (sym (none-written bytes none)) (follows _ _ (stands hidden (step.Releasing end.NotARecord) wanted tt))
+      subst (λ (o : Option Record). Follows j (at_step old (step.Releasing end.NotARecord)) (record_seen o)) (sym (none-written bytes none))
+      (follows _ _ (stands hidden (step.Releasing end.NotARecord) wanted tt))
   look-end bytes end.NoMemory any = go (record_of bytes)
     where
       go : (o : Option Record) → Follows j (at_step old (step.Releasing end.NoMemory)) (record_seen o)
@@ -117,8 +120,11 @@ module _ (j : Job) (plan : Plan) (old : Place) (p : IsPlan j plan) (q : IsPlace 
   look-found : (bytes : List ℕ) (result : Result Found End) (now : Place) → Finds bytes result → LooksAt result old now → Follows j now (looked j (Some bytes))
   look-found bytes (Ok found) now finds is =
       let r = found.value in
-      subst (λ (x : Place). Follows j x (looked j (Some bytes))) (sym is)
-      (mending r, inl (sym (ap record_seen (record_of-written bytes r finds.0))), record { hidden = hidden; wanted = wanted; made = made; holds = holds-mending j plan old made p q r; is = mending-is j hidden made r old.seen old.files })
+      subst (λ (x : Place). Follows j x (looked j (Some bytes))) (sym is) (
+        mending r,
+        inl (sym (ap record_seen (record_of-written bytes r finds.0))),
+        record { hidden = hidden; wanted = wanted; made = made; holds = holds-mending j plan old made p q r; is = mending-is j hidden made r old.seen old.files },
+      )
   look-found bytes (Err e) now finds is = subst (λ (x : Place). Follows j x (looked j (Some bytes))) (sym is) (look-end bytes e finds)
 
   pub look-follows : (file : Option (List ℕ)) (now : Place) → Looks plan file old now → Follows j now (looked j file)
@@ -138,7 +144,8 @@ module _ (j : Job) (plan : Plan) (old : Place) (p : IsPlan j plan) (q : IsPlace 
 
   passed-same : (go front : List ℕ) (file : Option (List ℕ)) (x : Passed) → front ≡ go_front (moment_of j) j.token → take 47 go ≡ front → PassedSo go file x → passed_as x ≡ passed_by j file
   passed-same go front None x f t is = ap passed_as is
-  passed-same go front (Some bytes) x f t is = ap passed_as is ∙ ap (λ (g : List ℕ). passed_as (if starts_with nat_eq bytes g then passed.After else passed.Before)) (t ∙ f) ∙ choose (starts_with nat_eq bytes (go_front (moment_of j) j.token))
+  passed-same go front (Some bytes) x f t is =
+      ap passed_as is ∙ ap (λ (g : List ℕ). passed_as (if starts_with nat_eq bytes g then passed.After else passed.Before)) (t ∙ f) ∙ choose (starts_with nat_eq bytes (go_front (moment_of j) j.token))
     where
       choose : (b : Bool) → passed_as (if b then passed.After else passed.Before) ≡ (if b then jobs.After else jobs.Before)
       choose true = refl
@@ -149,14 +156,26 @@ module _ (j : Job) (plan : Plan) (old : Place) (p : IsPlan j plan) (q : IsPlace 
   test-follows at file now l is =
       let s = tested_at (ways_of old) (entries_of old) at (is_some file) in
       let w = tested old.found (nth_item (found_items old.found) at) (drop (at + 1) (found_items old.found)) (names_of old.found) file in
-      subst (λ (x : Place). Follows j x w) (sym is)
-      (w, inl refl, record { hidden = hidden; wanted = wanted; made = made; holds = holds-tested j plan old hidden made p q (ways_of old) (entries_of old) at (is_some file); is = tested-same j plan old hidden made p q at file l })
+      subst (λ (x : Place). Follows j x w) (sym is) (
+        w,
+        inl refl,
+        record {
+          hidden = hidden;
+          wanted = wanted;
+          made = made;
+          holds =
+              holds-tested j plan old hidden made p q (ways_of old) (entries_of old) at (is_some file);
+          is = tested-same j plan old hidden made p q at file l;
+        },
+      )
 
-  pub check-follows : (file : Option (List ℕ)) (now : Place) (x : Passed) → take 47 old.go ≡ go_front (moment_of j) j.token → PassedSo old.go file x → now ≡ at_step old (step.Releasing (end.Failed x)) → Follows j now (machine.Releasing (jobs.Failed (passed_by j file)))
+  pub check-follows : (file : Option (List ℕ)) (now : Place) (x : Passed) → take 47 old.go ≡ go_front (moment_of j) j.token → PassedSo old.go file x
+      → now ≡ at_step old (step.Releasing (end.Failed x)) → Follows j now (machine.Releasing (jobs.Failed (passed_by j file)))
   check-follows file now x front so is =
       let same = passed-same old.go (go_front (moment_of j) j.token) file x refl front so in
       subst (λ (y : Place). Follows j y (machine.Releasing (jobs.Failed (passed_by j file)))) (sym is)
-      (subst (λ (w : jobs.Passed). Follows j (at_step old (step.Releasing (end.Failed x))) (machine.Releasing (jobs.Failed w))) same (follows _ _ (stands hidden (step.Releasing (end.Failed x)) wanted tt)))
+      (subst (λ (w : jobs.Passed). Follows j (at_step old (step.Releasing (end.Failed x))) (machine.Releasing (jobs.Failed w))) same
+      (follows _ _ (stands hidden (step.Releasing (end.Failed x)) wanted tt)))
 
 -- the lists of what was loaded
 pub length-set : {A : Type 0} (xs : List A) (at : ℕ) (x : A) → length (slice_set xs at x) ≡ length xs
@@ -180,12 +199,14 @@ seen-later : (x : Made) (xs : List Made) (ns : List (List ℕ)) → has ns x.edi
 seen-later x xs [] h = refl
 seen-later x xs (n ∷ ns) h =
     let b = or-none (bytes_eq x.edit.name n) (has ns x.edit.name) h in
-    let other : bytes_eq n x.edit.name ≡ false = same_false n x.edit.name (λ e. let w : bytes_eq x.edit.name n ≡ true = subst (λ (z : List ℕ). bytes_eq x.edit.name z ≡ true) (sym e) (same_refl x.edit.name) in absurd (cc)) in
+    let other : bytes_eq n x.edit.name ≡ false =
+    same_false n x.edit.name (λ e. let w : bytes_eq x.edit.name n ≡ true = subst (λ (z : List ℕ). bytes_eq x.edit.name z ≡ true) (sym e) (same_refl x.edit.name) in absurd (cc)) in
     let one : seen_files (x ∷ xs) n ≡ seen_files xs n = rw other refl in
     ap (λ (f : Option (List ℕ)). f ∷ map (seen_files (x ∷ xs)) ns) one ∙ ap (λ (fs : List (Option (List ℕ))). seen_files xs n ∷ fs) (seen-later x xs ns b.1)
 
 -- the files that were loaded, by their names
-seen-all : (es : List Edit) (files : List (Option (List ℕ))) → length files ≡ length es → AreDistinct (map (λ (e : Edit). e.name) es) → files ≡ map (seen_files (made_from es files)) (map (λ (e : Edit). e.name) es)
+seen-all : (es : List Edit) (files : List (Option (List ℕ))) → length files ≡ length es → AreDistinct (map (λ (e : Edit). e.name) es)
+    → files ≡ map (seen_files (made_from es files)) (map (λ (e : Edit). e.name) es)
 seen-all [] [] l d = refl
 seen-all [] (f ∷ fs) l d = absurd (omega (arith, l))
 seen-all (e ∷ es) [] l d = absurd (omega (arith, l))
@@ -227,19 +248,29 @@ content-is false seen (Some bytes) = refl
 content-is true None (Some bytes) = refl
 content-is true (Some old) (Some bytes) = go (nat_le (length old) load_limit)
   where
-    go : (b : Bool) → outcome_content (if b then jobs.Puts (Extend (length old)) (drop (length old) bytes) else jobs.Puts Replace bytes) ≡ drop (stay (file_way (Some bytes) (if b then Some (length old) else None))) bytes
+    go : (b : Bool) → outcome_content (if b then jobs.Puts (Extend (length old)) (drop (length old) bytes) else jobs.Puts Replace bytes)
+        ≡ drop (stay (file_way (Some bytes) (if b then Some (length old) else None))) bytes
     go true = refl
     go false = refl
 
+-- what is held of files that come to be so is what comes behind the bytes that stay
+part-bytes : (way : Way) (file : Option (List ℕ)) → bytes_of (part_of way file) ≡ drop (stay way) (bytes_of file)
+part-bytes Replace file = refl
+part-bytes Remove file = refl
+part-bytes (Extend at) None = sym (drop_all at [] (omega arith))
+part-bytes (Extend at) (Some bytes) = refl
+
 -- what is staged for files is what the changes make of them
 contents-are : (changes : List Change) (base : List (List ℕ)) (files : Files) (ns : List (List ℕ))
-    → contents_in (map (apply changes base files) ns) (file_ways (map (apply changes base files) ns) (tails_for changes ns (map files ns))) ≡ map (λ (x : Made). x.content) (made_from (map (edit_for changes base) ns) (map files ns))
+    → map bytes_of (parts_of (map (apply changes base files) ns) (file_ways (map (apply changes base files) ns) (tails_for changes ns (map files ns))))
+    ≡ map (λ (x : Made). x.content) (made_from (map (edit_for changes base) ns) (map files ns))
 contents-are changes base files [] = refl
 contents-are changes base files (n ∷ ns) =
     let adds = only_adds changes n in
     let now = map (apply changes base files) ns in
-    let rest = contents_in now (file_ways now (tails_for changes ns (map files ns))) in
-    ap (λ (f : Option (List ℕ)). drop (stay (file_way f (tail_at adds (files n)))) (bytes_of f) ∷ rest) (apply-alone changes base files (λ m. files n) n refl)
+    let rest = map bytes_of (parts_of now (file_ways now (tails_for changes ns (map files ns)))) in
+    ap (λ (b : List ℕ). b ∷ rest) (part-bytes (file_way (apply changes base files n) (tail_at adds (files n))) (apply changes base files n))
+    ∙ ap (λ (f : Option (List ℕ)). drop (stay (file_way f (tail_at adds (files n)))) (bytes_of f) ∷ rest) (apply-alone changes base files (λ m. files n) n refl)
     ∙ ap (λ (b : List ℕ). b ∷ rest) (sym (content-is adds (files n) (made_of changes base files n)))
     ∙ ap (λ (bs : List (List ℕ)). outcome_content (outcome_for adds (files n) (made_of changes base files n)) ∷ bs) (contents-are changes base files ns)
 
@@ -263,7 +294,8 @@ unfolding first_refusal
 hide-so names [] base files r m e = absurd (let h : None ≡ Some r = e in cc)
 hide-so names (c ∷ cs) base files r m e = go (refusal_of (name_of c) (outcome_on files c base)) refl (hide-so names cs base (after files c base) r m.1) e
   where
-    go : (o : Option ChangeRefusal) → refusal_of (name_of c) (outcome_on files c base) ≡ o → (first_refusal cs base (after files c base) ≡ Some r → MayHide names (cause_of r)) → or_else o (first_refusal cs base (after files c base)) ≡ Some r → MayHide names (cause_of r)
+    go : (o : Option ChangeRefusal) → refusal_of (name_of c) (outcome_on files c base) ≡ o
+        → (first_refusal cs base (after files c base) ≡ Some r → MayHide names (cause_of r)) → or_else o (first_refusal cs base (after files c base)) ≡ Some r → MayHide names (cause_of r)
     go None is later h = later h
     go (Some x) is later h = let same : x ≡ r = cc in subst (λ (z : ChangeRefusal). MayHide names (cause_of z)) same (hide-one names (name_of c) (outcome_on files c base) x m.0 is)
 
@@ -281,15 +313,21 @@ load-next j plan old p q hidden made at file l =
     ∙ ap (λ (xs : List Made). loading j xs left) (sym (made-more es old.files at e left file w.1 (omega (arith, l, q.files_are))))
 
 -- a file was loaded that isn't the last
-pub more-follows : (j : Job) (plan : Plan) (old : Place) (p : IsPlan j plan) (q : IsPlace plan old) (hidden : Ending) (wanted : WantedAs (all_of j) hidden) (made : List Made) → is_some j.edits ≡ true → (at : ℕ) (file : Option (List ℕ)) (now : Place) → at < files_of plan
-    → (at + 1 < files_of plan) × (now ≡ record old { step = step.Loading (at + 1); files = slice_set old.files at file }) → Follows j now (saw j (state_as j hidden made old.found old.seen old.files (step.Loading at)) file)
+pub more-follows : (j : Job) (plan : Plan) (old : Place) (p : IsPlan j plan) (q : IsPlace plan old) (hidden : Ending)
+    (wanted : WantedAs (all_of j) hidden) (made : List Made) → is_some j.edits ≡ true → (at : ℕ) (file : Option (List ℕ)) (now : Place) → at < files_of plan
+    → (at + 1 < files_of plan) × (now ≡ record old { step = step.Loading (at + 1); files = slice_set old.files at file })
+    → Follows j now (saw j (state_as j hidden made old.found old.seen old.files (step.Loading at)) file)
 more-follows j plan old p q hidden wanted made some at file now l more =
     let es = edits_of j in
     let fs = slice_set old.files at file in
-    subst (λ (x : Place). Follows j x (saw j (state_as j hidden made old.found old.seen old.files (step.Loading at)) file)) (sym more.1)
-    (loading j (made_from es (take (at + 1) fs)) (drop (at + 1) es), inl (sym (load-next j plan old p q hidden made at file l)), record { hidden = hidden; wanted = wanted; made = made; holds = some; is = refl })
+    subst (λ (x : Place). Follows j x (saw j (state_as j hidden made old.found old.seen old.files (step.Loading at)) file)) (sym more.1) (
+      loading j (made_from es (take (at + 1) fs)) (drop (at + 1) es),
+      inl (sym (load-next j plan old p q hidden made at file l)),
+      record { hidden = hidden; wanted = wanted; made = made; holds = some; is = refl },
+    )
 
-module _ (j : Job) (plan : Plan) (old : Place) (p : IsPlan j plan) (q : IsPlace plan old) (hidden : Ending) (wanted : WantedAs (all_of j) hidden) (made : List Made) (cs : List Change) (base : List (List ℕ)) (of : IsCommitOf j cs base) (named : AreNamed (names_of plan.value) cs) where
+module _ (j : Job) (plan : Plan) (old : Place) (p : IsPlan j plan) (q : IsPlace plan old) (hidden : Ending) (wanted : WantedAs (all_of j) hidden)
+    (made : List Made) (cs : List Change) (base : List (List ℕ)) (of : IsCommitOf j cs base) (named : AreNamed (names_of plan.value) cs) where
   some-edits : is_some j.edits ≡ true
   some-edits = ap is_some of.edits_are
 
@@ -344,10 +382,11 @@ module _ (j : Job) (plan : Plan) (old : Place) (p : IsPlan j plan) (q : IsPlace 
         ∙ ap (λ (ns : List (List ℕ)). file_ways (now-files (first_names cs)) (tails_for cs ns files)) (p.names_are ∙ all-are)
         ∙ ap (λ (fs : List (Option (List ℕ))). file_ways (now-files (first_names cs)) (tails_for cs (first_names cs) fs)) (seen-are ∙ ap (map F) all-are)
 
-    contents-made : (now : List (Option (List ℕ))) (ways : List Way) → now ≡ map (apply cs base F) (all_of j) → ways ≡ file_ways now (tails_for cs (names_of plan.value) files) → contents_in now ways ≡ map (λ (x : Made). x.content) all-made
+    contents-made : (now : List (Option (List ℕ))) (ways : List Way) → now ≡ map (apply cs base F) (all_of j)
+        → ways ≡ file_ways now (tails_for cs (names_of plan.value) files) → map bytes_of (parts_of now ways) ≡ map (λ (x : Made). x.content) all-made
     contents-made now ways is so =
-        ap (λ (ws : List Way). contents_in now ws) (so ∙ ways-by now is)
-        ∙ ap (λ (fs : List (Option (List ℕ))). contents_in fs (now-ways (first_names cs))) (is ∙ ap (map (apply cs base F)) all-are)
+        ap (λ (ws : List Way). map bytes_of (parts_of now ws)) (so ∙ ways-by now is)
+        ∙ ap (λ (fs : List (Option (List ℕ))). map bytes_of (parts_of fs (now-ways (first_names cs)))) (is ∙ ap (map (apply cs base F)) all-are)
         ∙ contents-are cs base F (first_names cs)
         ∙ made-by-name (λ (x : Made). x.content)
 
@@ -374,7 +413,8 @@ module _ (j : Job) (plan : Plan) (old : Place) (p : IsPlan j plan) (q : IsPlace 
     abbrev Judged : Option jobs.Refusal → State
     Judged o = judged j all-made o
 
-    refused-step : (e : End) (w : Ending) (fs : List (Option (List ℕ))) (ws : List Way) (go : List ℕ) → WantedAs (all_of j) w → StandsFor j (Now (unlocking_at 0 (files_of plan) (then.Answer e)) fs ws go) (unlocking (own_record j all-made e) (all_of j) (machine.Answer (end_as j w old.found e)))
+    refused-step : (e : End) (w : Ending) (fs : List (Option (List ℕ))) (ws : List Way) (go : List ℕ) → WantedAs (all_of j) w
+        → StandsFor j (Now (unlocking_at 0 (files_of plan) (then.Answer e)) fs ws go) (unlocking (own_record j all-made e) (all_of j) (machine.Answer (end_as j w old.found e)))
     refused-step e w fs ws go is = record {
       hidden = w;
       wanted = is;
@@ -387,16 +427,19 @@ module _ (j : Job) (plan : Plan) (old : Place) (p : IsPlan j plan) (q : IsPlace 
     no-memory done [] l = absurd (omega (arith, l))
     no-memory done (x ∷ left) l = refl
 
-    judged-follows : (result : Result Unit Trouble) (fs : List (Option (List ℕ))) (ws : List Way) (go : List ℕ) → (result ≡ Ok tt → ws ≡ file_ways fs (tails_for cs (names_of plan.value) files)) → (result ≡ Ok tt → go ≡ written (decided_record plan.value ws)) → 0 < files_of plan → JudgesSo cs base (names_of plan.value) F result fs → Follows j (Now (judged_at (files_of plan) result) fs ws go) (Judged (j.refusal F))
-    judged-follows (Ok u) fs ws go ways_are go_is some so =
+    judged-follows : (result : Result Unit Trouble) (now fs : List (Option (List ℕ))) (ws : List Way) (go : List ℕ)
+        → (result ≡ Ok tt → ws ≡ file_ways now (tails_for cs (names_of plan.value) files))
+        → (result ≡ Ok tt → go ≡ written (decided_record plan.value ws)) → (result ≡ Ok tt → fs ≡ parts_of now ws) → 0 < files_of plan
+        → JudgesSo cs base (names_of plan.value) F result now → Follows j (Now (judged_at (files_of plan) result) fs ws go) (Judged (j.refusal F))
+    judged-follows (Ok u) now fs ws go ways_are go_is files_are some so =
         let none : j.refusal F ≡ None = refusal-is ∙ ap (option_map cause_of) so.0 in
-        let made_so : fs ≡ map (apply cs base F) (all_of j) = so.1 ∙ ap (map (apply cs base F)) p.names_are in
-        let ways_so : ws ≡ map (λ (x : Made). x.way) all-made = ways_are refl ∙ ways-made fs made_so in
+        let made_so : now ≡ map (apply cs base F) (all_of j) = so.1 ∙ ap (map (apply cs base F)) p.names_are in
+        let ways_so : ws ≡ map (λ (x : Made). x.way) all-made = ways_are refl ∙ ways-made now made_so in
         let is_made : IsMade j all-made fs ws go = record {
           distinct = (p.texts_are some-edits).distinct;
           names_are = names-made;
           ways_are = ways_so;
-          contents_are = contents-made fs ws made_so (ways_are refl);
+          contents_are = ap (map bytes_of) (files_are refl) ∙ contents-made now ws made_so (ways_are refl);
           go_is = go_is refl ∙ ap written (go-made ws ways_so some);
         } in (
           staging [] all-made all-made,
@@ -409,18 +452,22 @@ module _ (j : Job) (plan : Plan) (old : Place) (p : IsPlan j plan) (q : IsPlace 
             is = staging-is j hidden all-made old.found old.seen fs 0 (files_of plan) made-count;
           },
         )
-    judged-follows (Err (trouble.Changed k m)) fs ws go ways_are go_is some so =
+    judged-follows (Err (trouble.Changed k m)) now fs ws go ways_are go_is files_are some so =
         let why : j.refusal F ≡ Some (jobs.Changed (nth (all_of j) k) m) = refusal-is ∙ ap (option_map cause_of) so ∙ ap (λ (ns : List (List ℕ)). Some (jobs.Changed (nth ns k) m)) p.names_are in
         (refusing j [] (all_of j) (Refused (jobs.Changed (nth (all_of j) k) m)), inl (sym (ap Judged why)), refused-step (end.Changed k m) hidden fs ws go wanted)
-    judged-follows (Err (trouble.TooLarge k m)) fs ws go ways_are go_is some so =
+    judged-follows (Err (trouble.TooLarge k m)) now fs ws go ways_are go_is files_are some so =
         let why : j.refusal F ≡ Some (jobs.TooLarge (nth (all_of j) k) m) = refusal-is ∙ ap (option_map cause_of) so ∙ ap (λ (ns : List (List ℕ)). Some (jobs.TooLarge (nth ns k) m)) p.names_are in
         (refusing j [] (all_of j) (Refused (jobs.TooLarge (nth (all_of j) k) m)), inl (sym (ap Judged why)), refused-step (end.TooLarge k m) hidden fs ws go wanted)
-    judged-follows (Err trouble.Memory) fs ws go ways_are go_is some so = wants (first_refusal cs base F) refl
+    judged-follows (Err trouble.Memory) now fs ws go ways_are go_is files_are some so = wants (first_refusal cs base F) refl
       where
         wants : (o : Option ChangeRefusal) → first_refusal cs base F ≡ o → Follows j (Now (unlocking_at 0 (files_of plan) (then.Answer end.NoMemory)) fs ws go) (Judged (j.refusal F))
         wants None is =
-            let none : j.refusal F ≡ None = refusal-is ∙ ap (option_map cause_of) is in
-            (refusing j [] (all_of j) NoMemory, inr (sym (ap (λ (o : Option jobs.Refusal). refused j (Judged o)) none ∙ no-memory all-made all-made (omega (arith, some, made-count)))), refused-step end.NoMemory NoMemory fs ws go (inl refl))
+            let none : j.refusal F ≡ None = refusal-is ∙ ap (option_map cause_of) is in (
+              refusing j [] (all_of j) NoMemory,
+              inr (sym
+                  (ap (λ (o : Option jobs.Refusal). refused j (Judged o)) none ∙ no-memory all-made all-made (omega (arith, some, made-count)))),
+              refused-step end.NoMemory NoMemory fs ws go (inl refl),
+            )
         wants (Some r) is =
             let why : j.refusal F ≡ Some (cause_of r) = refusal-is ∙ ap (option_map cause_of) is in
             let hides : MayHide (all_of j) (cause_of r) = subst (λ (ns : List (List ℕ)). MayHide ns (cause_of r)) p.names_are (hide-so (names_of plan.value) cs base F r named is) in
@@ -432,16 +479,18 @@ module _ (j : Job) (plan : Plan) (old : Place) (p : IsPlan j plan) (q : IsPlace 
         let distinct = subst D (sym p.names_are) (p.texts_are some-edits).distinct in
         let seen = seen-are ∙ ap (map F) (sym p.names_are) in
         let s = t.settles in
-        let at : now ≡ Now (judged_at (files_of plan) t.result) s.made s.ways s.go = t.is ∙ ap (λ (x : Place). (let y : Place = record x { step = judged_at (files_of plan) t.result } in y)) s.is in
-        subst (λ (x : Place). Follows j x (Judged (j.refusal F))) (sym at) (judged-follows t.result s.made s.ways s.go s.ways_are s.go_is some (s.judged F distinct seen))
+        let at : now ≡ Now (judged_at (files_of plan) t.result) s.files s.ways s.go = t.is ∙ ap (λ (x : Place). (let y : Place = record x { step = judged_at (files_of plan) t.result } in y)) s.is in
+        subst (λ (x : Place). Follows j x (Judged (j.refusal F))) (sym at) (judged-follows t.result s.made s.files s.ways s.go s.ways_are s.go_is s.files_are some (s.judged F distinct seen))
 
   -- the last file was loaded
-  pub last-follows : (at : ℕ) (file : Option (List ℕ)) (now : Place) → at < files_of plan → (files_of plan ≤ at + 1) × TakesAll plan (slice_set old.files at file) cs base old now → Follows j now (saw j (state_as j hidden made old.found old.seen old.files (step.Loading at)) file)
+  pub last-follows : (at : ℕ) (file : Option (List ℕ)) (now : Place) → at < files_of plan
+      → (files_of plan ≤ at + 1) × TakesAll plan (slice_set old.files at file) cs base old now → Follows j now (saw j (state_as j hidden made old.found old.seen old.files (step.Loading at)) file)
   last-follows at file now l over =
       let es = edits_of j in
       let fs = slice_set old.files at file in
       let long : length fs ≡ files_of plan = length-set old.files at file ∙ q.files_are in
       let all : take (at + 1) fs ≡ fs = take_all (at + 1) fs (omega (arith, over.0, long)) in
       let none : drop (at + 1) es ≡ [] = none-left es (at + 1) (omega (arith, over.0, edits-long j plan p)) in
-      let end : loading j (made_from es (take (at + 1) fs)) (drop (at + 1) es) ≡ loading j (made_from es fs) [] = ap (λ (xs : List (Option (List ℕ))). loading j (made_from es xs) (drop (at + 1) es)) all ∙ ap (loading j (made_from es fs)) none in
+      let end : loading j (made_from es (take (at + 1) fs)) (drop (at + 1) es) ≡ loading j (made_from es fs) [] =
+      ap (λ (xs : List (Option (List ℕ))). loading j (made_from es xs) (drop (at + 1) es)) all ∙ ap (loading j (made_from es fs)) none in
       subst (λ (s : State). Follows j now s) (sym (load-next j plan old p q hidden made at file l ∙ end)) (takes-all fs long now (omega (arith, l)) over.1)

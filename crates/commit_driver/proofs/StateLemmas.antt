@@ -107,33 +107,41 @@ module _ (j : Job) (hidden : Ending) (made : List Made) (found : Record) (seen :
       let ns = take end (names_as j found th) in
       let w = drop-some ns at (omega (arith, l, length-take-le end (names_as j found th) m)) in
       ap (λ (xs : List (List ℕ)). unlocking (record_as j made found th) xs (then_as j hidden found th)) w.1
-      ∙ ap (λ (n : List ℕ). machine.Unlocking (record_as j made found th) n (drop (at + 1) ns) (then_as j hidden found th)) (sym (nth-drop ns at w.0 (drop (at + 1) ns) w.1) ∙ nth-take (names_as j found th) at end l)
+      ∙ ap (λ (n : List ℕ). machine.Unlocking (record_as j made found th) n (drop (at + 1) ns) (then_as j hidden found th))
+      (sym (nth-drop ns at w.0 (drop (at + 1) ns) w.1) ∙ nth-take (names_as j found th) at end l)
 
   pub undoing-view : (at end locks : ℕ) (th : Then) → at < end → end ≤ length (names_as j found th)
-      → st (Undoing at end locks th) ≡ machine.Undoing (record_as j made found th) (nth (names_as j found th) at) (drop (at + 1) (take end (names_as j found th))) (take locks (names_as j found th)) (then_as j hidden found th)
+      → st (Undoing at end locks th) ≡ machine.Undoing (record_as j made found th) (nth (names_as j found th) at)
+      (drop (at + 1) (take end (names_as j found th))) (take locks (names_as j found th)) (then_as j hidden found th)
   undoing-view at end locks th l m =
       let ns = take end (names_as j found th) in
       let ls = take locks (names_as j found th) in
       let w = drop-some ns at (omega (arith, l, length-take-le end (names_as j found th) m)) in
       ap (λ (xs : List (List ℕ)). undoing (record_as j made found th) xs ls (then_as j hidden found th)) w.1
-      ∙ ap (λ (n : List ℕ). machine.Undoing (record_as j made found th) n (drop (at + 1) ns) ls (then_as j hidden found th)) (sym (nth-drop ns at w.0 (drop (at + 1) ns) w.1) ∙ nth-take (names_as j found th) at end l)
+      ∙ ap (λ (n : List ℕ). machine.Undoing (record_as j made found th) n (drop (at + 1) ns) ls (then_as j hidden found th))
+      (sym (nth-drop ns at w.0 (drop (at + 1) ns) w.1) ∙ nth-take (names_as j found th) at end l)
 
   -- the steps that numbers lead to
-  pub unlocking-is : (at end : ℕ) (th : Then) → end ≤ length (names_as j found th) → st (unlocking_at at end th) ≡ unlocking (record_as j made found th) (drop at (take end (names_as j found th))) (then_as j hidden found th)
+  pub unlocking-is : (at end : ℕ) (th : Then) → end ≤ length (names_as j found th)
+      → st (unlocking_at at end th) ≡ unlocking (record_as j made found th) (drop at (take end (names_as j found th))) (then_as j hidden found th)
   unlocking-is at end th m = elim (lt-or at end) [
     | inl y ↦ rw y.1 refl
-    | inr n ↦ rw n.1 (sym (ap (λ (xs : List (List ℕ)). unlocking (record_as j made found th) xs (then_as j hidden found th)) (none-left (take end (names_as j found th)) at (omega (arith, n.0, length-take-le end (names_as j found th) m)))))
+    | inr n ↦ rw n.1 (sym (ap (λ (xs : List (List ℕ)). unlocking (record_as j made found th) xs (then_as j hidden found th))
+        (none-left (take end (names_as j found th)) at (omega (arith, n.0, length-take-le end (names_as j found th) m)))))
   ]
 
   pub unlocking-all : (end : ℕ) (th : Then) → end ≡ length (names_as j found th) → st (unlocking_at 0 end th) ≡ unlocking (record_as j made found th) (names_as j found th) (then_as j hidden found th)
   unlocking-all end th e =
-      unlocking-is 0 end th (omega (arith, e)) ∙ ap (λ (xs : List (List ℕ)). unlocking (record_as j made found th) xs (then_as j hidden found th)) (take_all end (names_as j found th) (omega (arith, e)))
+      unlocking-is 0 end th (omega (arith, e))
+      ∙ ap (λ (xs : List (List ℕ)). unlocking (record_as j made found th) xs (then_as j hidden found th)) (take_all end (names_as j found th) (omega (arith, e)))
 
   pub undoing-is : (at end locks : ℕ) (th : Then) → end ≤ length (names_as j found th) → locks ≤ length (names_as j found th)
       → st (undoing_at at end locks th) ≡ undoing (record_as j made found th) (drop at (take end (names_as j found th))) (take locks (names_as j found th)) (then_as j hidden found th)
   undoing-is at end locks th m k = elim (lt-or at end) [
     | inl y ↦ rw y.1 refl
-    | inr n ↦ rw n.1 (unlocking-is 0 locks th k ∙ sym (ap (λ (xs : List (List ℕ)). undoing (record_as j made found th) xs (take locks (names_as j found th)) (then_as j hidden found th)) (none-left (take end (names_as j found th)) at (omega (arith, n.0, length-take-le end (names_as j found th) m)))))
+    | inr n ↦ rw n.1 (unlocking-is 0 locks th k
+        ∙ sym (ap (λ (xs : List (List ℕ)). undoing (record_as j made found th) xs (take locks (names_as j found th)) (then_as j hidden found th))
+        (none-left (take end (names_as j found th)) at (omega (arith, n.0, length-take-le end (names_as j found th) m)))))
   ]
 
   -- there are as many to put in place as names
@@ -142,7 +150,9 @@ module _ (j : Job) (hidden : Ending) (made : List Made) (found : Record) (seen :
   items-count (Answer e) = length-map (made_item made) (all_of j)
 
   -- the first step for an entry is that of its way
-  place-is : (way : Way) (at : ℕ) (th : Then) → st (place_at way at th) ≡ place_one way (record_as j made found th) (nth_item (items_as j made found th) at) (drop (at + 1) (items_as j made found th)) (names_as j found th) (then_as j hidden found th)
+  place-is : (way : Way) (at : ℕ) (th : Then)
+      → st (place_at way at th) ≡ place_one way (record_as j made found th) (nth_item (items_as j made found th) at)
+      (drop (at + 1) (items_as j made found th)) (names_as j found th) (then_as j hidden found th)
   place-is Replace at th = refl
   place-is Remove at GoOn = refl
   place-is Remove at (Answer e) = refl
@@ -167,13 +177,16 @@ module _ (j : Job) (hidden : Ending) (made : List Made) (found : Record) (seen :
         ∙ place-is (nth_item xs at).way at th
         ∙ ap (λ (x : Item). place_one x.way r x (drop (at + 1) xs) ns (then_as j hidden found th)) item
         ∙ sym (ap (λ (ys : List Item). placing r ys ns (then_as j hidden found th)) w.1))
-    | inr n ↦ rw n.1 (unlocking-all end th e ∙ sym (ap (λ (xs : List Item). placing (record_as j made found th) xs (names_as j found th) (then_as j hidden found th)) (none-left (items_as j made found th) at (omega (arith, n.0, e, items-count th)))))
+    | inr n ↦ rw n.1 (unlocking-all end th e
+        ∙ sym (ap (λ (xs : List Item). placing (record_as j made found th) xs (names_as j found th) (then_as j hidden found th))
+        (none-left (items_as j made found th) at (omega (arith, n.0, e, items-count th)))))
   ]
 
   pub locking-is : (at n : ℕ) → n ≡ length (all_of j) → st (locking_at at n) ≡ locking j (take at (all_of j)) (drop at (edits_of j))
   locking-is at n e = elim (lt-or at n) [
     | inl y ↦ rw y.1 refl
-    | inr m ↦ rw m.1 (ap (λ (ms : List Made). loading j ms (edits_of j)) (made-none (edits_of j)) ∙ sym (ap (locking j (take at (all_of j))) (none-left (edits_of j) at (omega (arith, m.0, e, length-map (λ (x : Edit). x.name) (edits_of j))))))
+    | inr m ↦ rw m.1 (ap (λ (ms : List Made). loading j ms (edits_of j)) (made-none (edits_of j))
+        ∙ sym (ap (locking j (take at (all_of j))) (none-left (edits_of j) at (omega (arith, m.0, e, length-map (λ (x : Edit). x.name) (edits_of j))))))
   ]
 
   pub staging-is : (at n : ℕ) → n ≡ length made → st (staging_at at n) ≡ staging (take at (all_of j)) made (drop at made)

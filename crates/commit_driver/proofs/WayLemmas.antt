@@ -1,5 +1,5 @@
 -- How files come to be, by their numbers and by their names.
-use Rattle.std.proofs.Common.{◌≡◌, ℕ, zero, suc, ◌+◌, ◌<◌, Bool, true, false, not, ◌&&◌, ◌||◌, List, [], ◌∷◌, ◌++◌, length, map, take, drop, get_or, Option, Some, refl, ap, sym, subst, inl, inr, ◌∙◌, add-one, arith}
+use Rattle.std.proofs.Common.{◌≡◌, ℕ, zero, suc, ◌+◌, ◌<◌, Bool, true, false, not, ◌&&◌, ◌||◌, List, [], ◌∷◌, ◌++◌, length, map, take, drop, get_or, slice_set, Option, Some, refl, ap, sym, subst, inl, inr, ◌∙◌, add-one, arith}
 use Rattle.std.specs.Str.{bytes_eq}
 use Rattle.std.specs.List.{list_all, list_any}
 use Rattle.commit_record.specs.Names.{is_lawful}
@@ -18,7 +18,7 @@ use Rattle.commit_machine.specs.Jobs.{Made, entries_for, made_at, way_made}
 use Rattle.commit_machine.proofs.records.Same.{same_refl, same_false, Mem_has}
 use Rattle.commit_machine.proofs.records.OfItems.{name-entry_for, fits-entry_for}
 use Rattle.commit_machine.proofs.records.OfJob.{tests, any-phase}
-use Rattle.commit_driver.specs.Places.{nth, nth_item, tail_at, tails_for, file_way, file_ways, decided_entries, decided_record}
+use Rattle.commit_driver.specs.Places.{nth, nth_item, tail_at, tails_for, file_way, file_ways, part_of, parts_of, decided_entries, decided_record}
 
 nth-Mem : (ns : List (List ℕ)) (at : ℕ) → at < length ns → Mem (nth ns at) ns
 nth-Mem [] at l = absurd (omega (arith, l))
@@ -58,7 +58,8 @@ made-names-long [] = refl
 made-names-long (x ∷ xs) = ap suc (made-names-long xs)
 
 -- the way of a file that was made is what was made for its name
-pub way-made : (made : List Made) (at : ℕ) → AreDistinct (map (λ (x : Made). x.edit.name) made) → at < length made → get_or (map (λ (x : Made). x.way) made) at Replace ≡ way_made (made_at made (nth (map (λ (x : Made). x.edit.name) made) at))
+pub way-made : (made : List Made) (at : ℕ) → AreDistinct (map (λ (x : Made). x.edit.name) made) → at < length made
+    → get_or (map (λ (x : Made). x.way) made) at Replace ≡ way_made (made_at made (nth (map (λ (x : Made). x.edit.name) made) at))
 way-made [] at d l = absurd (omega (arith, l))
 way-made (x ∷ xs) zero d l = let same = same_refl x.edit.name in rw same refl
 way-made (x ∷ xs) (suc at) d l =
@@ -97,12 +98,14 @@ made-later : (x : Made) (xs : List Made) (ns : List (List ℕ)) → has ns x.edi
 made-later x xs [] h = refl
 made-later x xs (n ∷ ns) h =
     let b = or-none (bytes_eq x.edit.name n) (has ns x.edit.name) h in
-    let other : bytes_eq n x.edit.name ≡ false = same_false n x.edit.name (λ e. let w : bytes_eq x.edit.name n ≡ true = subst (λ (z : List ℕ). bytes_eq x.edit.name z ≡ true) (sym e) (same_refl x.edit.name) in absurd (cc)) in
+    let other : bytes_eq n x.edit.name ≡ false =
+    same_false n x.edit.name (λ e. let w : bytes_eq x.edit.name n ≡ true = subst (λ (z : List ℕ). bytes_eq x.edit.name z ≡ true) (sym e) (same_refl x.edit.name) in absurd (cc)) in
     let one : way_made (made_at (x ∷ xs) n) ≡ way_made (made_at xs n) = rw other refl in
     ap (λ (k : Way). k ∷ map (λ (m : List ℕ). way_made (made_at (x ∷ xs) m)) ns) one ∙ ap (λ (ks : List Way). way_made (made_at xs n) ∷ ks) (made-later x xs ns b.1)
 
 -- what was made, by its names
-pub ways-by-name : (made : List Made) → AreDistinct (map (λ (x : Made). x.edit.name) made) → map (λ (x : Made). x.way) made ≡ map (λ (n : List ℕ). way_made (made_at made n)) (map (λ (x : Made). x.edit.name) made)
+pub ways-by-name : (made : List Made) → AreDistinct (map (λ (x : Made). x.edit.name) made)
+    → map (λ (x : Made). x.way) made ≡ map (λ (n : List ℕ). way_made (made_at made n)) (map (λ (x : Made). x.edit.name) made)
 ways-by-name [] d = refl
 ways-by-name (x ∷ xs) d =
     let same = same_refl x.edit.name in
@@ -124,7 +127,8 @@ decided-lawful (e ∷ es) (w ∷ ws) l =
     ap (λ (n : List ℕ). is_lawful n && list_all (λ (x : Entry). is_lawful x.name) (decided_entries es ws)) (name-entry_for w e.name)
     ∙ ap (λ (b : Bool). is_lawful e.name && b) (decided-lawful es ws (omega (arith, l)))
 
-decided-any : (n : List ℕ) (es : List Entry) (ways : List Way) → length ways ≡ length es → list_any (λ (e : Entry). bytes_eq n e.name) (decided_entries es ways) ≡ list_any (λ (e : Entry). bytes_eq n e.name) es
+decided-any : (n : List ℕ) (es : List Entry) (ways : List Way) → length ways ≡ length es
+    → list_any (λ (e : Entry). bytes_eq n e.name) (decided_entries es ways) ≡ list_any (λ (e : Entry). bytes_eq n e.name) es
 decided-any n [] ways l = refl
 decided-any n (e ∷ es) [] l = absurd (omega (arith, l))
 decided-any n (e ∷ es) (w ∷ ws) l =
@@ -205,12 +209,36 @@ pub ways-more : (files : List (Option (List ℕ))) (tails : List (Option ℕ)) (
 ways-more files tails at f t l k = ap (λ (n : ℕ). file_ways (take n files) (take n tails)) (add-one at) ∙ ways_taken files tails at f t l k
 
 tails_taken : (changes : List Change) (es : List Entry) (files : List (Option (List ℕ))) (at : ℕ) (d : Entry) (f : Option (List ℕ)) → at < length es → at < length files
-    → tails_for changes (map (λ (e : Entry). e.name) (take (suc at) es)) (take (suc at) files) ≡ tails_for changes (map (λ (e : Entry). e.name) (take at es)) (take at files) ++ tail_at (only_adds changes (get_or es at d).name) (get_or files at f) ∷ []
+    → tails_for changes (map (λ (e : Entry). e.name) (take (suc at) es)) (take (suc at) files)
+    ≡ tails_for changes (map (λ (e : Entry). e.name) (take at es)) (take at files) ++ tail_at (only_adds changes (get_or es at d).name) (get_or files at f) ∷ []
 tails_taken changes [] files at d x l k = absurd (omega (arith, l))
 tails_taken changes (e ∷ es) [] at d x l k = absurd (omega (arith, k))
 tails_taken changes (e ∷ es) (f ∷ fs) zero d x l k = refl
-tails_taken changes (e ∷ es) (f ∷ fs) (suc at) d x l k = ap (λ (ts : List (Option ℕ)). tail_at (only_adds changes e.name) f ∷ ts) (tails_taken changes es fs at d x (omega (arith, l)) (omega (arith, k)))
+tails_taken changes (e ∷ es) (f ∷ fs) (suc at) d x l k =
+    ap (λ (ts : List (Option ℕ)). tail_at (only_adds changes e.name) f ∷ ts) (tails_taken changes es fs at d x (omega (arith, l)) (omega (arith, k)))
 
 pub tails-more : (changes : List Change) (es : List Entry) (files : List (Option (List ℕ))) (at : ℕ) (d : Entry) (f : Option (List ℕ)) → at < length es → at < length files
-    → tails_for changes (map (λ (e : Entry). e.name) (take (at + 1) es)) (take (at + 1) files) ≡ tails_for changes (map (λ (e : Entry). e.name) (take at es)) (take at files) ++ tail_at (only_adds changes (get_or es at d).name) (get_or files at f) ∷ []
+    → tails_for changes (map (λ (e : Entry). e.name) (take (at + 1) es)) (take (at + 1) files)
+    ≡ tails_for changes (map (λ (e : Entry). e.name) (take at es)) (take at files) ++ tail_at (only_adds changes (get_or es at d).name) (get_or files at f) ∷ []
 tails-more changes es files at d f l k = ap (λ (n : ℕ). tails_for changes (map (λ (e : Entry). e.name) (take n es)) (take n files)) (add-one at) ∙ tails_taken changes es files at d f l k
+
+-- what is held of the files, one after another
+pub parts-long : (files : List (Option (List ℕ))) (ways : List Way) → length (parts_of files ways) ≡ length files
+parts-long [] ways = refl
+parts-long (f ∷ fs) [] = refl
+parts-long (f ∷ fs) (w ∷ ws) = ap suc (parts-long fs ws)
+
+pub parts-none : (files : List (Option (List ℕ))) → parts_of files [] ≡ files
+parts-none [] = refl
+parts-none (f ∷ fs) = refl
+
+parts_taken : (files : List (Option (List ℕ))) (ways : List Way) (at : ℕ) (w : Way) (f : Option (List ℕ)) → at < length files → at < length ways
+    → slice_set (parts_of files (take at ways)) at (part_of (get_or ways at w) (get_or (parts_of files (take at ways)) at f)) ≡ parts_of files (take (suc at) ways)
+parts_taken [] ways at w f l k = absurd (omega (arith, l))
+parts_taken (x ∷ xs) [] at w f l k = absurd (omega (arith, k))
+parts_taken (x ∷ xs) (v ∷ vs) zero w f l k = ap (λ (ys : List (Option (List ℕ))). part_of v x ∷ ys) (sym (parts-none xs))
+parts_taken (x ∷ xs) (v ∷ vs) (suc at) w f l k = ap (λ (ys : List (Option (List ℕ))). part_of v x ∷ ys) (parts_taken xs vs at w f (omega (arith, l)) (omega (arith, k)))
+
+pub parts-more : (files : List (Option (List ℕ))) (ways : List Way) (at : ℕ) (w : Way) (f : Option (List ℕ)) → at < length files → at < length ways
+    → slice_set (parts_of files (take at ways)) at (part_of (get_or ways at w) (get_or (parts_of files (take at ways)) at f)) ≡ parts_of files (take (at + 1) ways)
+parts-more files ways at w f l k = parts_taken files ways at w f l k ∙ ap (λ (n : ℕ). parts_of files (take n ways)) (sym (add-one at))

@@ -39,7 +39,7 @@ use Rattle.commit_driver.specs.declared.place.Plan.{Plan}
 use Rattle.commit_driver.specs.declared.place.Place.{Place}
 use Rattle.commit_driver.specs.Steps.{passed_at, placing_at, recovered_at, tested_at, undoing_at, unlocking_at, staging_at, faulted_at, long_at, short_at, went_at, weight}
 use Rattle.commit_driver.specs.Judging.{Judges, TroubleFits}
-use Rattle.commit_driver.specs.Places.{files_of, entries_of, file_ways, tails_for, ways_in, ways_of, decided_record, IsPlan, IsPlace, StandsFor}
+use Rattle.commit_driver.specs.Places.{files_of, entries_of, file_ways, tails_for, parts_of, ways_in, ways_of, decided_record, IsPlan, IsPlace, StandsFor}
 
 -- the answer as the machine has it
 abbrev pub reply_as : Reply → machine.Reply
@@ -95,26 +95,33 @@ abbrev pub Looks : Plan → Option (List ℕ) → Place → Place → Type 0
 Looks plan None old now = now ≡ at_step old (if plan.commits then step.Preparing else step.Clearing recovered.Nothing)
 Looks plan (Some bytes) old now = (result : Result Found End) × Finds bytes result × LooksAt result old now
 
--- How the files come to be is settled, and the text of the decision is written, if the files were judged so, unless memory runs out.
+-- How the files come to be is settled, the text of the decision is written, and what is staged for the files is held alone, if the files
+-- were judged so, unless memory runs out.
 pub record WritesGo (plan : Plan) (tails : List (Option ℕ)) (judged : Result Unit Trouble) (old : Place) (result : Result Unit Trouble) (now : Place) : Type 0 where
   pub same : (result ≡ judged) ⊎ (result ≡ Err trouble.Memory)
   pub ways : List Way
   pub ways_are : result ≡ Ok tt → ways ≡ file_ways old.files tails
   pub go : List ℕ
   pub go_is : result ≡ Ok tt → go ≡ written (decided_record plan.value ways)
-  pub is : now ≡ record old { ways = ways; go = go }
+  pub files : List (Option (List ℕ))
+  pub files_are : result ≡ Ok tt → files ≡ parts_of old.files ways
+  pub long : length files ≡ length old.files
+  pub is : now ≡ record old { files = files; ways = ways; go = go }
 
--- What is made of the files once all are loaded. Then it is settled how they come to be, and the text of the decision is written.
+-- What is made of the files once all are loaded. Then it is settled how they come to be, the text of the decision is written, and of a file
+-- that is extended no more is held than is staged for it.
 pub record Settles (plan : Plan) (changes : List Change) (base : List (List ℕ)) (old : Place) (result : Result Unit Trouble) (now : Place) : Type 0 where
   pub made : List (Option (List ℕ))
   pub judged : Judges changes base (names_of plan.value) old.files result made
   pub fits : TroubleFits (files_of plan) result
-  pub long : length made ≡ length old.files
   pub ways : List Way
   pub ways_are : result ≡ Ok tt → ways ≡ file_ways made (tails_for changes (names_of plan.value) old.files)
   pub go : List ℕ
   pub go_is : result ≡ Ok tt → go ≡ written (decided_record plan.value ways)
-  pub is : now ≡ record old { files = made; ways = ways; go = go }
+  pub files : List (Option (List ℕ))
+  pub files_are : result ≡ Ok tt → files ≡ parts_of made ways
+  pub long : length files ≡ length old.files
+  pub is : now ≡ record old { files = files; ways = ways; go = go }
 
 -- the place once this file, the last, is loaded
 pub record TakesAll (plan : Plan) (files : List (Option (List ℕ))) (changes : List Change) (base : List (List ℕ)) (old now : Place) : Type 0 where

@@ -105,24 +105,28 @@ name_in plan place (name.Staged k) = nth plan.staged k
 name_in plan place (name.Found k) = nth (names_of place.found) k
 name_in plan place (name.FoundStaged k) = nth place.found_staged k
 
--- what is staged for the file with this number: what comes behind the bytes that stay
-abbrev pub content_at : List (Option (List ℕ)) → List Way → ℕ → List ℕ
-content_at files ways k = drop (stay (get_or ways k Replace)) (bytes_of (get_or files k None))
+-- what is held of a file that comes to be so: of one that is extended, what comes behind the bytes that stay
+abbrev pub part_of : Way → Option (List ℕ) → Option (List ℕ)
+part_of (Extend at) (Some bytes) = Some (drop at bytes)
+part_of way file = file
 
--- what is staged for files that come to be so
-abbrev pub contents_in : List (Option (List ℕ)) → List Way → List (List ℕ)
-contents_in [] ways = []
-contents_in (file ∷ files) [] = bytes_of file ∷ contents_in files []
-contents_in (file ∷ files) (way ∷ ways) = drop (stay way) (bytes_of file) ∷ contents_in files ways
+abbrev pub parts_of : List (Option (List ℕ)) → List Way → List (Option (List ℕ))
+parts_of [] ways = []
+parts_of (file ∷ files) [] = file ∷ files
+parts_of (file ∷ files) (way ∷ ways) = part_of way file ∷ parts_of files ways
+
+-- what is staged for the file with this number, once that is held
+abbrev pub content_at : List (Option (List ℕ)) → ℕ → List ℕ
+content_at files k = bytes_of (get_or files k None)
 
 -- the machine's call that a call is
 abbrev pub call_in : Plan → Place → Call → machine.Call
 call_in plan place (call.Load x) = machine.ToLoad (name_in plan place x)
 call_in plan place call.StagePrepare = machine.ToStage plan.new plan.prepare
 call_in plan place call.StageGo = machine.ToStage plan.new place.go
-call_in plan place (call.StageFile k) = machine.ToStage (nth plan.staged k) (content_at place.files place.ways k)
+call_in plan place (call.StageFile k) = machine.ToStage (nth plan.staged k) (content_at place.files k)
 call_in plan place (call.Publish x y) = machine.ToPublish (name_in plan place x) (name_in plan place y)
-call_in plan place (call.Extend k) = machine.ToExtend (nth (names_of plan.value) k) (stay (get_or place.ways k Replace)) (content_at place.files place.ways k)
+call_in plan place (call.Extend k) = machine.ToExtend (nth (names_of plan.value) k) (stay (get_or place.ways k Replace)) (content_at place.files k)
 call_in plan place (call.ExtendFound k) = machine.ToExtend (nth (names_of place.found) k) (stay (get_or (map way_of place.found.entries) k Replace)) (bytes_of place.seen)
 call_in plan place (call.Erase x) = machine.ToErase (name_in plan place x)
 call_in plan place (call.Lock k) = machine.ToLock (nth (names_of plan.value) k) plan.value.token
@@ -209,11 +213,14 @@ state_as j hidden made found seen files (step.Placing at th) =
     machine.Placing (record_as j made found th) (nth_item (items_as j made found th) at) (drop (at + 1) (items_as j made found th)) (names_as j found th) (then_as j hidden found th)
 state_as j hidden made found seen files (step.Testing at) = machine.Testing found (nth_item (found_items found) at) (drop (at + 1) (found_items found)) (names_of found)
 state_as j hidden made found seen files (step.Removing at th) =
-    machine.Removing (record_as j made found th) (item_seen th seen (nth_item (items_as j made found th) at)) (drop (at + 1) (items_as j made found th)) (names_as j found th) (then_as j hidden found th)
+    machine.Removing (record_as j made found th) (item_seen th seen (nth_item (items_as j made found th) at))
+    (drop (at + 1) (items_as j made found th)) (names_as j found th) (then_as j hidden found th)
 state_as j hidden made found seen files (step.Extending at th) =
-    machine.Extending (record_as j made found th) (item_seen th seen (nth_item (items_as j made found th) at)) (drop (at + 1) (items_as j made found th)) (names_as j found th) (then_as j hidden found th)
+    machine.Extending (record_as j made found th) (item_seen th seen (nth_item (items_as j made found th) at))
+    (drop (at + 1) (items_as j made found th)) (names_as j found th) (then_as j hidden found th)
 state_as j hidden made found seen files (step.Discarding at th) =
-    machine.Discarding (record_as j made found th) (item_seen th seen (nth_item (items_as j made found th) at)) (drop (at + 1) (items_as j made found th)) (names_as j found th) (then_as j hidden found th)
+    machine.Discarding (record_as j made found th) (item_seen th seen (nth_item (items_as j made found th) at))
+    (drop (at + 1) (items_as j made found th)) (names_as j found th) (then_as j hidden found th)
 state_as j hidden made found seen files (step.Unlocking at end th) =
     unlocking (record_as j made found th) (drop at (take end (names_as j found th))) (then_as j hidden found th)
 state_as j hidden made found seen files (step.Erasing th) = machine.Erasing (record_as j made found th) (then_as j hidden found th)
@@ -263,7 +270,7 @@ pub record IsMade (j : Job) (made : List Made) (files : List (Option (List ℕ))
   pub distinct : AreDistinct (all_of j)
   pub names_are : map (λ x. x.edit.name) made ≡ all_of j
   pub ways_are : ways ≡ map (λ x. x.way) made
-  pub contents_are : contents_in files ways ≡ map (λ x. x.content) made
+  pub contents_are : map bytes_of files ≡ map (λ x. x.content) made
   pub go_is : go ≡ written (go_of j made)
 
 -- an entry is put in place of a record that was found, or of the own one once it is decided

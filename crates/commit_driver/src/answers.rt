@@ -12,7 +12,7 @@ ghost use Rattle.commit_driver.specs.Steps.{call_at, unlocking_at, undoing_at, p
 ghost use Rattle.commit_driver.specs.Places.{files_of, entries_of, ways_of, IsPlace, IsCounted};
 ghost use Rattle.commit_driver.specs.Answers.{Finds, PassedSo, Looks, WritesGo, Settles, Takes, SawSo, Answered, IsAnswer, IsAfter, mending_at, judged_at};
 
-use crate::decision::{decided, own_way, tails_for};
+use crate::decision::{decided, keep_parts, own_way, tails_for};
 use crate::judge::{Trouble, judge};
 use crate::{End, Passed, Place, Plan, Recovered, Step, Then};
 use commit_machine::staged_name;
@@ -394,7 +394,8 @@ fn judged(files: usize, done: Result<(), Trouble>) -> Step
     unlocking(0, files, Then::Answer(why))
 }
 
-// What becomes of the files is settled: the text of the decision is written.
+// What becomes of the files is settled: the text of the decision is written, and what is staged for the files is kept
+// alone.
 fn write_decision(
     alloc: Global,
     plan: &Plan,
@@ -410,9 +411,13 @@ fn write_decision(
     match judged {
         Ok(()) => match decided(alloc, &plan.value, place.files.items(), tails) {
             Ok(decision) => {
+                let kept = keep_parts(alloc, decision.ways.items(), &mut place.files);
                 place.ways = decision.ways;
                 place.go = decision.text;
-                Ok(())
+                match kept {
+                    Ok(()) => Ok(()),
+                    Err(Memory) => Err(Trouble::Memory),
+                }
             }
             Err(Memory) => Err(Trouble::Memory),
         },

@@ -1,11 +1,11 @@
 // The record of a decision, once it is known what is to stand in the files.
-ghost use Rattle.std.specs.Prelude.{◌≡◌, ◌&&◌, ◌||◌, not, true, None, length, map, get_or, IfOk};
+ghost use Rattle.std.specs.Prelude.{◌≡◌, ◌<◌, ◌&&◌, ◌||◌, not, true, None, length, map, drop, get_or, slice_set, IfOk, OnOk};
 ghost use Rattle.std.specs.Str.{bytes_eq};
 ghost use Rattle.folder_change.specs.Changes.{name_of};
 ghost use Rattle.commit_record.specs.Format.{is_valid, written};
 ghost use Rattle.commit_record.specs.declared.way.Way.TheVariants as Way;
 ghost use Rattle.commit_machine.specs.Edits.{is_added, only_adds};
-ghost use Rattle.commit_driver.specs.Places.{tail_at, tails_for, file_way, file_ways, decided_entries, decided_record};
+ghost use Rattle.commit_driver.specs.Places.{tail_at, tails_for, file_way, file_ways, part_of, parts_of, decided_entries, decided_record};
 
 use commit_record::{Entry, Phase, Record, Way, entry_for, write};
 use folder_change::{Change, change_name};
@@ -160,4 +160,60 @@ pub fn decided(
     let ways = ways_of(alloc, files, tails)?;
     let text = decided_text(alloc, value, ways.items())?;
     Ok(Decision { ways, text })
+}
+
+// What follows so many bytes.
+fn behind(bytes: &[u8], count: u64) -> &[u8]
+    ensures { result.now ≡ drop count bytes.now }
+{
+    if (bytes.len() as u64) < count {
+        return b"";
+    }
+    let (_, rest) = bytes.split_at(count as usize);
+    rest
+}
+
+// Of a file that is extended, what is staged for it is kept alone.
+fn keep_part(alloc: Global, way: Way, file: &mut Option<Text>) -> Result<(), Memory>
+    ensures { OnOk result (file.new ≡ part_of way file.old) }
+{
+    match (file, way) {
+        (Some(text), Way::Extend(at)) => {
+            let tail = Text::copy(alloc, behind(text.bytes(), at))?;
+            *text = tail;
+            Ok(())
+        }
+        _ => Ok(()),
+    }
+}
+
+// Of the file with this number.
+fn keep_at(
+    alloc: Global,
+    way: Way,
+    at: usize,
+    files: &mut Items<Option<Text>>,
+) -> Result<(), Memory>
+    requires { at < length files.old }
+    ensures part { OnOk result (files.new ≡ slice_set files.old at (part_of way (get_or files.old at None))) }
+    ensures long { length files.new ≡ length files.old }
+{
+    keep_part(alloc, way, files.get_mut(at))
+}
+
+/// Of each file that is extended, what is staged for it is kept alone: the bytes that stay are on the disk, and no call
+/// wants them. If memory runs out, the files are no longer of use.
+pub fn keep_parts(
+    alloc: Global,
+    ways: &[Way],
+    files: &mut Items<Option<Text>>,
+) -> Result<(), Memory>
+    requires { length ways.now ≡ length files.old }
+    ensures parts { OnOk result (files.new ≡ parts_of files.old ways.now) }
+    ensures long { length files.new ≡ length files.old }
+{
+    for at in 0..ways.len() {
+        keep_at(alloc, own_way(ways, at), at, files)?;
+    }
+    Ok(())
 }

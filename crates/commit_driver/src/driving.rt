@@ -1,5 +1,5 @@
 // A job is driven over a host.
-ghost use Rattle.std.specs.Prelude.{◌≡◌, ◌<◌, Some, true, length, drop, All, IsTrue, IsSome, option_copied};
+ghost use Rattle.std.specs.Prelude.{◌≡◌, ◌<◌, Some, true, length, All, IsTrue, IsSome, option_copied};
 ghost use Rattle.host_port.specs.Ran.{Ran};
 ghost use Rattle.folder_change.specs.Changes.{name_of, is_rewrite};
 ghost use Rattle.folder_change.specs.Outcomes.{base_list, bytes_of};
@@ -73,24 +73,12 @@ fn stay(way: Way) -> u64
     }
 }
 
-// What follows so many bytes.
-fn behind(bytes: &[u8], count: u64) -> &[u8]
-    ensures { result.now ≡ drop count bytes.now }
-{
-    if (bytes.len() as u64) < count {
-        return b"";
-    }
-    let (_, rest) = bytes.split_at(count as usize);
-    rest
-}
-
 // What is staged for the file with this number.
 fn content_at(place: &Place, at: usize) -> &[u8]
     requires { at < length place.now.files }
-    ensures { result.now ≡ content_at place.now.files place.now.ways at }
+    ensures { result.now ≡ content_at place.now.files at }
 {
-    let way = own_way(place.ways.items(), at);
-    behind(bytes_of(&place.files.items()[at]), stay(way))
+    bytes_of(&place.files.items()[at])
 }
 
 /// Makes a call on the host.

@@ -37,7 +37,8 @@ pub struct Place {
     pub found_staged: Items<Text>,
     /// What was seen of the staged file of the entry that is next.
     pub seen: Option<Text>,
-    /// The files that were loaded so far, and then what is to be staged for them: as many as the plan has.
+    /// The files that were loaded so far, and then what is to be staged for them: as many as the plan has. Of a file that
+    /// is only added to, what stays isn't held once that is known.
     pub files: Items<Option<Text>>,
     /// How the files come to be, once that is known.
     pub ways: Items<Way>,

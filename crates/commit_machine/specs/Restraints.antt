@@ -48,7 +48,8 @@ may_act e = false
 
 -- after a failed call a run changes no file and no lock, and takes no right
 abbrev pub NothingAfterAFault : Type 0
-NothingAfterAFault = (j : Job) (d : Disk) (before : List Event) (e : Event) (rest : List Event) (last : State) → IsRun j d (before ++ e ∷ rest) last → is_failed e ≡ true → list_any may_act rest ≡ false
+NothingAfterAFault = (j : Job) (d : Disk) (before : List Event) (e : Event) (rest : List Event) (last : State) → IsRun j d (before ++ e ∷ rest) last
+    → is_failed e ≡ true → list_any may_act rest ≡ false
 
 -- a job is decided only if it isn't refused, by its files as they are due
 abbrev pub NoRefusedIsDecided : Type 0

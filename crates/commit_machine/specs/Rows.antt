@@ -119,10 +119,12 @@ RowMoments = (actor : List ℕ) (token : ℕ) (d : Disk) (ps : List Piece) (more
     → IsRunDue actor token d (accepted ps (bracket_edits edits ∷ more)) (row_events ps ++ es) (disk d (row_events ps ++ es))
 
 abbrev pub RowStops : Type 0
-RowStops = (actor : List ℕ) (token : ℕ) (d : Disk) (ps : List Piece) (more : List (List Edit)) (edits : Option (List Edit)) (refusal : Files → Option Refusal) (before : List Event) (e : Event) (rest : List Event) (last : State) (part : Part)
+RowStops = (actor : List ℕ) (token : ℕ) (d : Disk) (ps : List Piece) (more : List (List Edit)) (edits : Option (List Edit))
+    (refusal : Files → Option Refusal) (before : List Event) (e : Event) (rest : List Event) (last : State) (part : Part)
     → IsRow actor token d ps
     → IsBracket actor token (disk d (row_events ps)) edits refusal last (before ++ e ∷ rest)
-    → IsRunDue actor token d (accepted ps (bracket_edits edits ∷ more)) (row_events ps ++ (before ++ in_flight (disk d (row_events ps ++ before)) e part)) (stopped (disk d (row_events ps ++ before)) e part)
+    → IsRunDue actor token d (accepted ps (bracket_edits edits ∷ more))
+    (row_events ps ++ (before ++ in_flight (disk d (row_events ps ++ before)) e part)) (stopped (disk d (row_events ps ++ before)) e part)
 
 -- and at each image of a stop between jobs
 abbrev pub RowStopsBetween : Type 0

@@ -67,5 +67,7 @@ Mem x (y ∷ ys) = (x ≡ y) ⊎ Mem x ys
 -- stands has its lock and, if the file is extended, a file with as many bytes at least as stay.
 pub record IsSoundAt (actor : List ℕ) (files : Files) (locks : Locks) : Type 0 where
   pub plain : (r : Record) (n : List ℕ) → record_in (files (record_name actor)) ≡ Some r → is_go r ≡ true → Mem n (names_of r) → is_record_name actor n ≡ false
-  pub locked : (r : Record) (n : List ℕ) → record_in (files (record_name actor)) ≡ Some r → is_go r ≡ true → Mem n (names_of r) → is_some (files (staged_name r.token n)) ≡ true → locks n ≡ Some r.token
-  pub long : (r : Record) (n : List ℕ) (at : ℕ) → record_in (files (record_name actor)) ≡ Some r → is_go r ≡ true → Mem n (names_of r) → way_at r n ≡ Extend at → is_some (files (staged_name r.token n)) ≡ true → reaches at (files n) ≡ true
+  pub locked : (r : Record) (n : List ℕ) → record_in (files (record_name actor)) ≡ Some r → is_go r ≡ true → Mem n (names_of r)
+      → is_some (files (staged_name r.token n)) ≡ true → locks n ≡ Some r.token
+  pub long : (r : Record) (n : List ℕ) (at : ℕ) → record_in (files (record_name actor)) ≡ Some r → is_go r ≡ true → Mem n (names_of r)
+      → way_at r n ≡ Extend at → is_some (files (staged_name r.token n)) ≡ true → reaches at (files n) ≡ true

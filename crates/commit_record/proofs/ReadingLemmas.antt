@@ -64,7 +64,8 @@ token_at-digits n rest fits =
     cond-false _ _ _ (le-ltb _ _ long)
     ∙ ap (λ (front : List ℕ). option_map (λ (bytes : List ℕ). (from_be_bytes w64 bytes, drop 16 (ds ++ rest))) (result_ok (decode_sized front 8))) (take_at ds rest 16 len)
     ∙ ap (λ (back : List ℕ). option_map (λ (bytes : List ℕ). (from_be_bytes w64 bytes, back)) (result_ok (decode_sized ds 8))) (drop_at ds rest 16 len)
-    ∙ ap (λ (r : Result (List ℕ) FromHexError). option_map (λ (bytes : List ℕ). (from_be_bytes w64 bytes, rest)) (result_ok r)) (decode_sized-encode_lower (to_be_bytes w64 n) 8 refl (IsBytes-high 8 n))
+    ∙ ap (λ (r : Result (List ℕ) FromHexError). option_map (λ (bytes : List ℕ). (from_be_bytes w64 bytes, rest)) (result_ok r))
+    (decode_sized-encode_lower (to_be_bytes w64 n) 8 refl (IsBytes-high 8 n))
     ∙ ap (λ (number : ℕ). Some (number, rest)) (from_be_bytes-to_be_bytes_8 n fits)
 
 go-not-prepare : (rest : List ℕ) → after (codes "prepare\n") (codes "go\n" ++ rest) ≡ None

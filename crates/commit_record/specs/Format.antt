@@ -116,7 +116,8 @@ most_files (Some moment) = file_limit
 -- files are removed or extended after the decision alone.
 abbrev pub is_valid : Record → Bool
 is_valid r =
-    nat_lt 0 (length r.entries) && (nat_le (length r.entries) (most_files r.moment) && (list_all (λ e. is_lawful e.name) r.entries && (are_distinct r.entries && (list_all fits_kind r.entries && (fit_phase r.phase r.entries && fits_moment r.moment)))))
+    nat_lt 0 (length r.entries) && (nat_le (length r.entries) (most_files r.moment)
+    && (list_all (λ e. is_lawful e.name) r.entries && (are_distinct r.entries && (list_all fits_kind r.entries && (fit_phase r.phase r.entries && fits_moment r.moment)))))
 
 -- the bytes are the text of a valid record
 pub record IsWritten (bytes : List ℕ) (r : Record) : Type 0 where

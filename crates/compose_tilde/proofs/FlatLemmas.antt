@@ -127,7 +127,8 @@ flat-written alone m view h = tt
 flat-written (escaped letter rest) m view h = flat-letter (escape_of letter) letter rest m view h
 
 flat-line : (m : Machine) (line : List ℕ) (view : View) → HasFlatParts m.draft → IsFlatStep (draft_line m line view)
-flat-line m line view h = flat-if (is_end view.vars line) (Ok (m, need.Done)) (written_step (reading_of (escape_byte view.vars) line) m view) h (flat-written (reading_of (escape_byte view.vars) line) m view h)
+flat-line m line view h = flat-if (is_end view.vars line) (Ok (m, need.Done)) (written_step (reading_of (escape_byte view.vars) line) m view) h
+    (flat-written (reading_of (escape_byte view.vars) line) m view h)
 
 flat-next : (m : Machine) (p : Part) (d : Option Draft) → ((n : Draft) → d ≡ Some n → HasFlatParts n) → IsFlatStep (next_value m p d)
 flat-next m p None h = tt
@@ -172,16 +173,21 @@ flat-answered Said (answer.Ran child) m h = h
 flat-answered Said (answer.Edited edit) m h = h
 flat-answered Said answer.Carried m h = h
 flat-answered Taken (answer.Loaded bytes) m h = h
-flat-answered Taken (answer.Ran child) m h = flat-if child.cut (Err error.TooMuch) (Ok (record m { draft = appended m.draft child.output }, told child.status)) tt (flat-body m.draft (grown m.draft.body child.output) h)
+flat-answered Taken (answer.Ran child) m h =
+    flat-if child.cut (Err error.TooMuch) (Ok (record m { draft = appended m.draft child.output }, told child.status)) tt (flat-body m.draft (grown m.draft.body child.output) h)
 flat-answered Taken (answer.Edited edit) m h = h
 flat-answered Taken answer.Carried m h = h
 flat-answered Filtered (answer.Loaded bytes) m h = h
-flat-answered Filtered (answer.Ran child) m h = flat-if (is_zero child.status) (if child.cut then Err error.TooMuch else goes_on m (with_body m.draft child.output)) (says m (status_line child.status)) (flat-if child.cut (Err error.TooMuch) (goes_on m (with_body m.draft child.output)) tt (flat-body m.draft child.output h)) h
+flat-answered Filtered (answer.Ran child) m h =
+    flat-if (is_zero child.status) (if child.cut then Err error.TooMuch else goes_on m (with_body m.draft child.output))
+    (says m (status_line child.status)) (flat-if child.cut (Err error.TooMuch) (goes_on m (with_body m.draft child.output)) tt (flat-body m.draft child.output h)) h
 flat-answered Filtered (answer.Edited edit) m h = h
 flat-answered Filtered answer.Carried m h = h
 flat-answered Edited (answer.Loaded bytes) m h = h
 flat-answered Edited (answer.Ran child) m h = h
-flat-answered Edited (answer.Edited edit) m h = flat-if (is_zero edit.status) (if edit.cut then Err error.TooMuch else goes_on m (with_body m.draft edit.text)) (says m (status_line edit.status)) (flat-if edit.cut (Err error.TooMuch) (goes_on m (with_body m.draft edit.text)) tt (flat-body m.draft edit.text h)) h
+flat-answered Edited (answer.Edited edit) m h =
+    flat-if (is_zero edit.status) (if edit.cut then Err error.TooMuch else goes_on m (with_body m.draft edit.text)) (says m (status_line edit.status))
+    (flat-if edit.cut (Err error.TooMuch) (goes_on m (with_body m.draft edit.text)) tt (flat-body m.draft edit.text h)) h
 flat-answered Edited answer.Carried m h = h
 flat-answered Carried (answer.Loaded bytes) m h = h
 flat-answered Carried (answer.Ran child) m h = h

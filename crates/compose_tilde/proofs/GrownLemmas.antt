@@ -41,7 +41,8 @@ grown-line body (b ∷ l) more = grown-some body b (with_feed l ++ more)
 pub grown-twice : (body l more : List ℕ) → grown (grown body (with_feed l)) more ≡ grown body (with_feed l ++ more)
 grown-twice body l [] = ap (grown body) (sym (append-nil (with_feed l)))
 grown-twice body l (b ∷ more) =
-    let line : grown body (with_feed l) ≡ fed body ++ with_feed l = ap (grown body) (sym (append-nil (with_feed l))) ∙ grown-line body l [] ∙ ap (λ (x : List ℕ). fed body ++ x) (append-nil (with_feed l)) in
+    let line : grown body (with_feed l) ≡ fed body ++ with_feed l =
+    ap (grown body) (sym (append-nil (with_feed l))) ∙ grown-line body l [] ∙ ap (λ (x : List ℕ). fed body ++ x) (append-nil (with_feed l)) in
     grown-some (grown body (with_feed l)) b more
     ∙ ap (λ (x : List ℕ). fed x ++ b ∷ more) line
     ∙ ap (λ (x : List ℕ). x ++ b ∷ more) (fed-behind (fed body) l)

@@ -41,10 +41,13 @@ pub is_holder : (k : ℕ) (o : Option ℕ) → holder_for k o ≡ Some Own → o
 is_holder k None h = absurd (cc)
 is_holder k (Some i) h = elim (cases_Bool (i == k)) [
   | inl y ↦ ap Some (eqb-true i k y)
-  | inr nay ↦ absurd (let w : (if i == k then Some Own else Some Other) ≡ Some Own = h in let v : Some Other ≡ Some Own = subst (λ (b : Bool). (if b then Some Own else Some Other) ≡ Some Own) nay w in cc)
+  | inr nay ↦ absurd (let w : (if i == k then Some Own else Some Other) ≡ Some Own = h in let v : Some Other ≡ Some Own =
+      subst (λ (b : Bool). (if b then Some Own else Some Other) ≡ Some Own) nay w in cc)
 ]
 
-module _ (s : CoreState) (g : Ground s) (k : ℕ) (j : Job) (job : IsJob j) (doing : Doing) (at : IsActor s k (record { name = j.actor; token = j.token }) doing) (st : State) (e : Event) (is : IsNext (next j st) e) (agrees : Agrees (seen_by k s.disk) e) (known : Knows j st (seen_by k s.disk))
+module _ (s : CoreState) (g : Ground s) (k : ℕ) (j : Job) (job : IsJob j) (doing : Doing)
+    (at : IsActor s k (record { name = j.actor; token = j.token }) doing) (st : State) (e : Event) (is : IsNext (next j st) e)
+    (agrees : Agrees (seen_by k s.disk) e) (known : Knows j st (seen_by k s.disk))
     (free : (b n : List ℕ) → Mem b (names_in s) → Mem n (all_of j) → is_record_name b n ≡ false)
     -- the holders then: no other's right is lost
     (holders : List ℕ → Option ℕ) (stay : (q : List ℕ) (i : ℕ) → i ≢ k → s.disk.holders q ≡ Some i → holders q ≡ Some i) where
@@ -108,7 +111,8 @@ module _ (s : CoreState) (g : Ground s) (k : ℕ) (j : Job) (job : IsJob j) (doi
             let token : b.token ≡ r.token = staged-token b.token r.token n m (g.fit i b x one) (stands-valid (s.disk.files (record_name j.actor)) r h.stands).1 is_m in
             let name : n ≡ m = staged-one r.token n m (subst (λ (t : ℕ). staged_name t n ≡ staged_name r.token m) token is_m) in
             let home : j.actor ≡ b.name = g.token_at_home i b x j.actor r one mem h.stands (sym token) in
-            subst (λ (z : List ℕ). IsNamed (after (seen_by k s.disk) e).files z b.token n) home (named_after j.actor r n b.token mem h.stands (sym token) (subst (λ (z : List ℕ). Mem z (names_of r)) (sym name) mm) (inl so))
+            subst (λ (z : List ℕ). IsNamed (after (seen_by k s.disk) e).files z b.token n) home
+            (named_after j.actor r n b.token mem h.stands (sym token) (subst (λ (z : List ℕ). Mem z (names_of r)) (sym name) mm) (inl so))
         from (inr (inr (r, h, mm, l))) = absurd (lawful-staged (staged_name b.token n) b.token n (stands-lawful (s.disk.files (record_name j.actor)) r (staged_name b.token n) h.stands mm) refl)
 
     module _ (ne : i ≢ k) (live : x ≢ Stopped) where
@@ -157,7 +161,8 @@ module _ (s : CoreState) (g : Ground s) (k : ℕ) (j : Job) (job : IsJob j) (doi
 
         no_staged : (m : List ℕ) → IsOwnName j.actor (seen_by k s.disk) (staged_name r.token m) → ⊥
         no_staged m (inl p) = names_apart j.actor (staged_name r.token m) r.token m refl p.0
-        no_staged m (inr (inl (q, h, (l, ml, is_l)))) = not_same q h (sym (staged-token r.token q.token m l (stands-valid (s.disk.files (record_name b.name)) r stands).1 (stands-valid (s.disk.files (record_name j.actor)) q h.stands).1 is_l))
+        no_staged m (inr (inl (q, h, (l, ml, is_l)))) =
+            not_same q h (sym (staged-token r.token q.token m l (stands-valid (s.disk.files (record_name b.name)) r stands).1 (stands-valid (s.disk.files (record_name j.actor)) q h.stands).1 is_l))
         no_staged m (inr (inr (q, h, ml, l))) = lawful-staged (staged_name r.token m) r.token m (stands-lawful (s.disk.files (record_name j.actor)) q (staged_name r.token m) h.stands ml) refl
 
         no_file : (m : List ℕ) → Mem m (names_of r) → s.disk.locks m ≡ Some r.token → IsOwnName j.actor (seen_by k s.disk) m → ⊥
@@ -176,7 +181,8 @@ module _ (s : CoreState) (g : Ground s) (k : ℕ) (j : Job) (job : IsJob j) (doi
       keeps_then : Keeps b.name b.token (seen_by i s.disk) (seen_by i event_disk)
       keeps_then = record {
         right = right_kept;
-        own = let own_kept = keeps_other j.actor b.token (seen_by k s.disk) e apart_own touch agrees in record { staged = own_kept.staged; lock = own_kept.lock; free = own_kept.free; file = own_kept.file };
+        own = let own_kept = keeps_other j.actor b.token (seen_by k s.disk) e apart_own touch agrees in
+            record { staged = own_kept.staged; lock = own_kept.lock; free = own_kept.free; file = own_kept.file };
         fresh = fresh_kept;
         records = record_kept;
         found = found_kept;

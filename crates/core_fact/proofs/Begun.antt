@@ -134,8 +134,10 @@ module _ (files : Files) (locks : Locks) (actors : List Actor) (may : MayBegin f
   apart_names : (x y : Actor) → Mem x actors → Mem y actors → (r q : Record) → standing_in files x.name ≡ Some r → standing_in files y.name ≡ Some q → r.token ≡ q.token → x.name ≢ y.name → ⊥
   apart_names x y mx my r q sx sy same ne = elim (order actors x y mx my) [
     | is_same p ↦ ne (ap (λ (z : Actor). z.name) p)
-    | is_after e l p m ↦ may.untaken e l x r.token p (inr ((λ w. may.untaken e l x x.token p (inl (w, refl))), record { other = y; among = m; apart = λ z. ne (sym z); here = r; there = q; stands = sx; stood = sy; same = sym same; is = refl }))
-    | is_before e l p m ↦ may.untaken e l y q.token p (inr ((λ w. may.untaken e l y y.token p (inl (w, refl))), record { other = x; among = m; apart = ne; here = q; there = r; stands = sy; stood = sx; same = same; is = refl }))
+    | is_after e l p m ↦ may.untaken e l x r.token p
+        (inr ((λ w. may.untaken e l x x.token p (inl (w, refl))), record { other = y; among = m; apart = λ z. ne (sym z); here = r; there = q; stands = sx; stood = sy; same = sym same; is = refl }))
+    | is_before e l p m ↦ may.untaken e l y q.token p
+        (inr ((λ w. may.untaken e l y y.token p (inl (w, refl))), record { other = x; among = m; apart = ne; here = q; there = r; stands = sy; stood = sx; same = same; is = refl }))
   ]
 
   begun_orderly : Orderly (names_in (begun files locks actors)) files locks

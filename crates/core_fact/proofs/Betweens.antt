@@ -25,7 +25,8 @@ places-both : (actors : List Actor) (d : CoreDisk) (xs ys : List Deed) → place
 places-both actors d [] ys = refl
 places-both actors d (x ∷ xs) ys =
     let first : List Passed = place_of (actor_at actors x.actor) x (seen_by x.actor d) in
-    ap (λ (z : List Passed). first ++ z) (places-both actors (disk_once d x) xs ys) ∙ sym (append_assoc first (places_of actors (disk_once d x) xs) (places_of actors (disk_after (disk_once d x) xs) ys))
+    ap (λ (z : List Passed). first ++ z) (places-both actors (disk_once d x) xs ys)
+    ∙ sym (append_assoc first (places_of actors (disk_once d x) xs) (places_of actors (disk_after (disk_once d x) xs) ys))
 
 changed-both : (ps qs : List Passed) (files : Files) → changed_by (ps ++ qs) files ≡ changed_by qs (changed_by ps files)
 changed-both [] qs files = refl

@@ -57,7 +57,8 @@ with_right a d m (inl p) = p.1
 with_right a d m (inr (inl (r, h, w))) = h.right
 with_right a d m (inr (inr (r, h, mm, l))) = h.right
 
-module _ (s : CoreState) (g : Ground s) (k : ℕ) (a : Actor) (t : Task) (past : List Past) (at : IsActor s k a (Bracket t past)) (e : Event) (is : IsNext (next (job_of a t) (state_of a t past)) e) (agrees : Agrees (seen_by k s.disk) e) where
+module _ (s : CoreState) (g : Ground s) (k : ℕ) (a : Actor) (t : Task) (past : List Past) (at : IsActor s k a (Bracket t past)) (e : Event)
+    (is : IsNext (next (job_of a t) (state_of a t past)) e) (agrees : Agrees (seen_by k s.disk) e) where
   pub own : is_foreign e ≡ false
   own = own_event (next (job_of a t) (state_of a t past)) e is
 
@@ -74,8 +75,10 @@ module _ (s : CoreState) (g : Ground s) (k : ℕ) (a : Actor) (t : Task) (past :
   pub knows_then : Knows (job_of a t) (state_of a t (past ++ Shown e ∷ [])) (after (seen_by k s.disk) e)
   knows_then =
       let d = seen_by k s.disk in
-      let kept = Moments.own_step (job_of a t) (g.job k a t past at) (seen_by k s.disk) (settled_files (job_of a t).actor (seen_by k s.disk)) (settled_locks (job_of a t).actor (seen_by k s.disk)) (λ n. refl) (λ n. refl) sound (state_of a t past) e is agrees known in
-      subst (λ (z : State). Knows (job_of a t) z (after (seen_by k s.disk) e)) (sym (state_shown a t past e)) (knows_on_time (job_of a t) (after (seen_by k s.disk) e) (after_reply (job_of a t) (state_of a t past) (reply e)) kept.knows)
+      let kept = Moments.own_step (job_of a t) (g.job k a t past at) (seen_by k s.disk) (settled_files (job_of a t).actor (seen_by k s.disk))
+      (settled_locks (job_of a t).actor (seen_by k s.disk)) (λ n. refl) (λ n. refl) sound (state_of a t past) e is agrees known in
+      subst (λ (z : State). Knows (job_of a t) z (after (seen_by k s.disk) e)) (sym (state_shown a t past e))
+      (knows_on_time (job_of a t) (after (seen_by k s.disk) e) (after_reply (job_of a t) (state_of a t past) (reply e)) kept.knows)
 
   -- another's right is seen as another's
   seen_other : (q : List ℕ) (i : ℕ) → i ≢ k → s.disk.holders q ≡ Some i → (after (seen_by k s.disk) e).rights q ≡ Some Other
@@ -108,7 +111,8 @@ module _ (s : CoreState) (g : Ground s) (k : ℕ) (a : Actor) (t : Task) (past :
       → holder_then k (s.disk.holders (right_name a.name)) ((after (seen_by k s.disk) e).rights (right_name a.name)) ≡ Some k
   right_then going r stands same =
       let still : is_over (on_time (after_reply (job_of a t) (state_of a t past) (reply e))) ≡ false = subst (λ (z : State). is_over z ≡ false) (state_shown a t past e) going in
-      ap (holder_then k (s.disk.holders (right_name a.name))) (own_right (seen_by k s.disk) e (right_name a.name) own (goes_on_with (job_of a t) (state_of a t past) e is still) (had_right r stands same))
+      ap (holder_then k (s.disk.holders (right_name a.name)))
+      (own_right (seen_by k s.disk) e (right_name a.name) own (goes_on_with (job_of a t) (state_of a t past) e is still) (had_right r stands same))
 
   allowed_of : (changes : List CoreChange) (moment : ℤ) → t ≡ task.Commit changes moment → may_commit (actors_of s) a changes ≡ true
   allowed_of changes moment same = g.allowed k a changes moment past (subst (λ (z : Task). IsActor s k a (Bracket z past)) same at)
@@ -117,18 +121,21 @@ changed_with : (s : CoreState) (g : Ground s) (k : ℕ) (a : Actor) (t : Task) (
     → Agrees (seen_by k s.disk) e → (holders : List ℕ → Option ℕ) → ((q : List ℕ) (i : ℕ) → i ≢ k → s.disk.holders q ≡ Some i → holders q ≡ Some i)
     → IsChanged s k (record { files = (after (seen_by k s.disk) e).files; locks = (after (seen_by k s.disk) e).locks; holders = holders })
 changed_with s g k a (task.Commit changes moment) past at e is agrees holders stay =
-    Around.changed s g k (job_of a (task.Commit changes moment)) (g.job k a (task.Commit changes moment) past at) (Bracket (task.Commit changes moment) past) at (state_of a (task.Commit changes moment) past) e is agrees (g.knows k a (task.Commit changes moment) past at)
+    Around.changed s g k (job_of a (task.Commit changes moment)) (g.job k a (task.Commit changes moment) past at)
+    (Bracket (task.Commit changes moment) past) at (state_of a (task.Commit changes moment) past) e is agrees (g.knows k a (task.Commit changes moment) past at)
     (job_free s.members a changes moment (g.allowed k a changes moment past at)) holders stay
 changed_with s g k a task.Recover past at e is agrees holders stay =
     Around.changed s g k (job_of a task.Recover) (g.job k a task.Recover past at) (Bracket task.Recover past) at (state_of a task.Recover past) e is agrees (g.knows k a task.Recover past at)
     (λ b n mb mn. absurd mn) holders stay
 
-module _ (s : CoreState) (g : Ground s) (k : ℕ) (a : Actor) (t : Task) (past : List Past) (at : IsActor s k a (Bracket t past)) (e : Event) (is : IsNext (next (job_of a t) (state_of a t past)) e) (agrees : Agrees (seen_by k s.disk) e) where
+module _ (s : CoreState) (g : Ground s) (k : ℕ) (a : Actor) (t : Task) (past : List Past) (at : IsActor s k a (Bracket t past)) (e : Event)
+    (is : IsNext (next (job_of a t) (state_of a t past)) e) (agrees : Agrees (seen_by k s.disk) e) where
   pub changed_called : IsChanged s k (disk_then k s.disk (after (seen_by k s.disk) e))
   changed_called = changed_with s g k a t past at e is agrees (λ q. holder_then k (s.disk.holders q) ((after (seen_by k s.disk) e).rights q)) (stay_called s g k a t past at e is agrees)
 
   pub changed_stopped : IsChanged s k (disk_then k s.disk (ended (after (seen_by k s.disk) e)))
-  changed_stopped = changed_with s g k a t past at e is agrees (λ q. holder_then k (s.disk.holders q) (without_own ((after (seen_by k s.disk) e).rights q))) (stay_stopped s g k a t past at e is agrees)
+  changed_stopped = changed_with s g k a t past at e is agrees
+      (λ q. holder_then k (s.disk.holders q) (without_own ((after (seen_by k s.disk) e).rights q))) (stay_stopped s g k a t past at e is agrees)
 
   proper_called : IsProper s k a (disk_then k s.disk (after (seen_by k s.disk) e)) (doing_then a t past (Shown e))
   proper_called = proper_at s k a (disk_then k s.disk (after (seen_by k s.disk) e)) t (past ++ Shown e ∷ []) (g.job k a t past at) (allowed_of s g k a t past at e is agrees)
@@ -137,7 +144,8 @@ module _ (s : CoreState) (g : Ground s) (k : ℕ) (a : Actor) (t : Task) (past :
       (right_then s g k a t past at e is agrees)
 
   pub ground_called : Ground (after_turn s k (record { actor = a; doing = Bracket t past }) (shown a t past (seen_by k s.disk) e))
-  ground_called = ground_then s g k a (Bracket t past) at (disk_then k s.disk (after (seen_by k s.disk) e)) changed_called (doing_then a t past (Shown e)) proper_called (s.places ++ passed_at a t e (seen_by k s.disk))
+  ground_called = ground_then s g k a (Bracket t past) at (disk_then k s.disk (after (seen_by k s.disk) e)) changed_called
+      (doing_then a t past (Shown e)) proper_called (s.places ++ passed_at a t e (seen_by k s.disk))
 
   pub ground_cut : Ground (then_state s k a (disk_then k s.disk (ended (after (seen_by k s.disk) e))) Stopped (s.places ++ passed_at a t e (seen_by k s.disk)))
   ground_cut = ground_then s g k a (Bracket t past) at (disk_then k s.disk (ended (after (seen_by k s.disk) e))) changed_stopped Stopped tt (s.places ++ passed_at a t e (seen_by k s.disk))
@@ -147,8 +155,10 @@ pub record_from : (s : CoreState) (g : Ground s) (k : ℕ) (a : Actor) (t : Task
     → Agrees (seen_by k s.disk) e
     → (r : Record) → standing_in (after (seen_by k s.disk) e).files a.name ≡ Some r → (standing_in s.disk.files a.name ≡ Some r) ⊎ (r.token ≡ a.token)
 record_from s g k a (task.Commit changes moment) past at e is agrees r stands =
-    elim (Around.record_then s g k (job_of a (task.Commit changes moment)) (g.job k a (task.Commit changes moment) past at) (Bracket (task.Commit changes moment) past) at (state_of a (task.Commit changes moment) past) e is agrees (g.knows k a (task.Commit changes moment) past at)
-    (job_free s.members a changes moment (g.allowed k a changes moment past at)) (λ q. holder_then k (s.disk.holders q) ((after (seen_by k s.disk) e).rights q)) (stay_called s g k a (task.Commit changes moment) past at e is agrees)
+    elim (Around.record_then s g k (job_of a (task.Commit changes moment)) (g.job k a (task.Commit changes moment) past at)
+    (Bracket (task.Commit changes moment) past) at (state_of a (task.Commit changes moment) past) e is agrees (g.knows k a (task.Commit changes moment) past at)
+    (job_free s.members a changes moment (g.allowed k a changes moment past at))
+    (λ q. holder_then k (s.disk.holders q) ((after (seen_by k s.disk) e).rights q)) (stay_called s g k a (task.Commit changes moment) past at e is agrees)
     a.name (mem s g k a (task.Commit changes moment) past at e is agrees) r stands) [ inl w ↦ inl w | inr w ↦ inr w.1 ]
 record_from s g k a task.Recover past at e is agrees r stands =
     elim (Around.record_then s g k (job_of a task.Recover) (g.job k a task.Recover past at) (Bracket task.Recover past) at (state_of a task.Recover past) e is agrees (g.knows k a task.Recover past at)

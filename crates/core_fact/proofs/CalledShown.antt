@@ -73,7 +73,8 @@ module _ (actors : List Actor) (a : Actor) (t : Task) (k : ℕ) (xs : Acts) wher
         | inl may ↦ before actors a x xs s (Bracket t past) (doing_then a t past Wanted) kind.Refuse due
             (refuse-turn s k a t past (ToLoad n) (seen_by k s.disk) live (ap may_want (f.is ∙ same) ∙ may)) (refuse-quiet k a t past (ToLoad n) (seen_by k s.disk) live)
             (λ mid next_due. idle actors a x xs mid (doing_then a t past Wanted) next_due refl (passed-none a t (event.Load n seen.Memory) (seen_by k mid.disk) refl) refl
-            (will_after actors a t (past ++ Wanted ∷ []) (refused (job_of a t) st) xs (follows_wanted a t past st f may) (subst (λ (y : State). Future actors a t y xs) (wanted-refused (job_of a t) st may) future)))
+            (will_after actors a t (past ++ Wanted ∷ []) (refused (job_of a t) st) xs (follows_wanted a t past st f may)
+            (subst (λ (y : State). Future actors a t y xs) (wanted-refused (job_of a t) st may) future)))
         | inr may_not ↦ (
             let at : st ≡ Checking = unwanted-load (job_of a t) st n call may_not in
             acts actors a x xs s t past (kind.Fail Before) (ToLoad n) (shown a t past (seen_by k s.disk) (event.Load n seen.Failed)) due live refl refl
@@ -115,15 +116,18 @@ module _ (actors : List Actor) (a : Actor) (t : Task) (k : ℕ) (xs : Acts) wher
       → Future actors a t (after_reply (job_of a t) st (reply e)) xs → IsEnd (seen_by k s.disk) c e → Made actors s a (deed k t e false) xs
   goes_on s past st e c due f same call future (inl is) =
       let d : Disk = seen_by k s.disk in
-      showing s past st e kind.Call c due f same (ap (next (job_of a t)) (f.is ∙ same) ∙ call) (ap (λ (y : Event). Some (shown a t past d y)) (sym is)) (ap (λ (y : Event). main_calls (deed k t y false ∷ [])) (sym is)) future
+      showing s past st e kind.Call c due f same (ap (next (job_of a t)) (f.is ∙ same) ∙ call)
+      (ap (λ (y : Event). Some (shown a t past d y)) (sym is)) (ap (λ (y : Event). main_calls (deed k t y false ∷ [])) (sym is)) future
   goes_on s past st e c due f same call future (inr (inl fails)) =
       let d : Disk = seen_by k s.disk in
       let x = failing-is d c e fails in
-      showing s past st e (kind.Fail x.1.0) c due f same (ap (next (job_of a t)) (f.is ∙ same) ∙ call) (rw x.0 (ap (λ (y : Event). Some (shown a t past d y)) (sym x.1.1))) (ap (λ (y : Event). main_calls (deed k t y false ∷ [])) (sym x.1.1)) future
+      showing s past st e (kind.Fail x.1.0) c due f same (ap (next (job_of a t)) (f.is ∙ same) ∙ call)
+      (rw x.0 (ap (λ (y : Event). Some (shown a t past d y)) (sym x.1.1))) (ap (λ (y : Event). main_calls (deed k t y false ∷ [])) (sym x.1.1)) future
   goes_on s past st e c due f same call future (inr (inr sh)) =
       let x = short-is c e sh in
       subst (λ (y : Event). Made actors s a (deed k t y false) xs) (sym x.2)
-      (short s past st x.0 (subst (λ (y : Event). Due actors s a (Bracket t past) (deed k t y false) xs) x.2 due) f same (call ∙ ap Some x.1) (subst (λ (y : Event). Future actors a t (after_reply (job_of a t) st (reply y)) xs) x.2 future))
+      (short s past st x.0 (subst (λ (y : Event). Due actors s a (Bracket t past) (deed k t y false) xs) x.2 due) f same (call ∙ ap Some x.1)
+      (subst (λ (y : Event). Future actors a t (after_reply (job_of a t) st (reply y)) xs) x.2 future))
 
   -- an end of the next call
   pub called : (s : CoreState) (past : List Past) (st : State) (e : Event) (b : Bool) (c : Call) → Due actors s a (Bracket t past) (deed k t e b) xs → Follows a t past st → on_time st ≡ st

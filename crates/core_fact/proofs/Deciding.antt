@@ -35,7 +35,9 @@ then_is : (j : Job) (d : Disk) (e : Event) (files : Files) (n : List ℕ) → is
 then_is j d (event.Foreign f) files n own = absurd (cc)
 then_is j d e files n own = refl
 
-module _ (j : Job) (job : IsJob j) (actors : List (List ℕ)) (d : Disk) (s : State) (e : Event) (mem : Mem j.actor actors) (orderly : Orderly actors d.files d.locks) (later : Orderly actors (after d e).files (after d e).locks) (is : IsNext (next j s) e) (agrees : Agrees d e) (known : Knows j s d) (own : is_foreign e ≡ false)
+module _ (j : Job) (job : IsJob j) (actors : List (List ℕ)) (d : Disk) (s : State) (e : Event) (mem : Mem j.actor actors)
+    (orderly : Orderly actors d.files d.locks) (later : Orderly actors (after d e).files (after d e).locks) (is : IsNext (next j s) e)
+    (agrees : Agrees d e) (known : Knows j s d) (own : is_foreign e ≡ false)
     (free : (b n : List ℕ) → Mem b actors → Mem n (all_of j) → is_record_name b n ≡ false)
     (mine : (b : List ℕ) (r : Record) → Mem b actors → standing_in d.files b ≡ Some r → r.token ≡ j.token → b ≡ j.actor) where
   -- at the decision no other has a name of the job's

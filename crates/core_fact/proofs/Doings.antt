@@ -103,7 +103,9 @@ module _ (actors : List Actor) (a : Actor) (k : ℕ) (xs : Acts) where
         let x = now-is e y in
         let of' : IsNext (next (job_of a t) now) (event.Now x.0) = subst (λ (z : Event). IsNext (next (job_of a t) now) z) x.1 of in
         let q = question t past st now x.0 f or of' in
-        let looking : Future actors a t Looking xs = subst (λ (z : State). Future actors a t (after_reply (job_of a t) z (reply (event.Now x.0))) xs) q.0 (subst (λ (z : Event). Future actors a t (after_reply (job_of a t) now (reply z)) xs) x.1 future) in
+        let looking : Future actors a t Looking xs =
+        subst (λ (z : State). Future actors a t (after_reply (job_of a t) z (reply (event.Now x.0))) xs) q.0
+        (subst (λ (z : Event). Future actors a t (after_reply (job_of a t) now (reply z)) xs) x.1 future) in
         subst (λ (z : Event). Made actors s a (deed k t z b) xs) (sym x.1)
         (asked_time s t past x.0 b call (subst (λ (z : Event). Due actors s a (Bracket t past) (deed k t z b) xs) x.1 due) q.1 live looking))
     | inr n ↦ (
@@ -170,7 +172,8 @@ module _ (actors : List Actor) (a : Actor) (k : ℕ) (xs : Acts) where
     | inr o ↦ (
         let r = ready a t past i.state (Ended o.0) i.follows o.1 in
         elim r.1 [
-          | inl same ↦ (let f : Follows a t past (Ended o.0) = subst (λ (p : List Past). Follows a t p (Ended o.0)) same r.2 in let h : None ≡ Some i.call = sym (ap (next (job_of a t)) f.is) ∙ i.live in absurd (cc))
+          | inl same ↦ (let f : Follows a t past (Ended o.0) = subst (λ (p : List Past). Follows a t p (Ended o.0)) same r.2 in
+              let h : None ≡ Some i.call = sym (ap (next (job_of a t)) f.is) ∙ i.live in absurd (cc))
           | inr w ↦ closes s t u past e b i.call o.0 o.3.0 due i.live w.0 (subst (λ (p : List Past). Follows a t p (Ended o.0)) w.2 r.2) o.2 o.3.1
         ])
   ]

@@ -168,7 +168,8 @@ module _ (actors : List Actor) (a : Actor) (cs : List CoreChange) (may : may_com
   pub job_is : (moment : ℤ) → a.token < 2 ^ 64 → IsJob (job_of a (Commit cs moment))
   job_is moment fits = record {
     token_fits = fits;
-    valid = λ es is. ap (λ (ns : List (List ℕ)). is_valid (record { phase = Prepare; token = a.token; moment = Some (nearest_moment moment); entries = replaced ns })) (names_are cs (files_named cs)) ∙ valid moment;
+    valid = λ es is. ap (λ (ns : List (List ℕ)). is_valid
+        (record { phase = Prepare; token = a.token; moment = Some (nearest_moment moment); entries = replaced ns })) (names_are cs (files_named cs)) ∙ valid moment;
     plain = λ e m. plain_name e.name (edit_named cs (files_named cs) e m);
     extends = λ e m. edit_extends cs (files_named cs) e m;
   }

@@ -77,7 +77,9 @@ module _ (s : CoreState) (g : Ground s) (memory : Memory s) (k : ℕ) (a : Actor
           (λ r. taker_is t past at q (is_holder k (s.disk.holders q) r)) (had_then q ((after (seen_by k s.disk) e).rights q) refl h)
 
       goes_on : right_sights (right_sights false past) (Shown e ∷ []) ≡ true → is_over (state_of a t (past ++ Shown e ∷ [])) ≡ false
-      goes_on h = ap is_over (state_shown a t past e) ∙ not_over (on_time (after_reply (job_of a t) (state_of a t past) (reply e))) (mid_on_time (job_of a t) (after_reply (job_of a t) (state_of a t past) (reply e)) (mid_after (job_of a t) (state_of a t past) (right_sights false past) e is h))
+      goes_on h = ap is_over (state_shown a t past e)
+          ∙ not_over (on_time (after_reply (job_of a t) (state_of a t past) (reply e)))
+          (mid_on_time (job_of a t) (after_reply (job_of a t) (state_of a t past) (reply e)) (mid_after (job_of a t) (state_of a t past) (right_sights false past) e is h))
 
       pub memory_called : Memory (then_state s k a (disk_then k s.disk (after (seen_by k s.disk) e)) (doing_then a t past (Shown e)) places)
       memory_called = memory_then s memory k a (Bracket t past) at (disk_then k s.disk (after (seen_by k s.disk) e)) (changed_called s g k a t past at e is agrees)

@@ -45,13 +45,21 @@ module _ (s : CoreState) (memory : Memory s) (k : ℕ) (a : Actor) (old : Doing)
     (back : (q : List ℕ) (i : ℕ) → i ≢ k → now.holders q ≡ Some i → s.disk.holders q ≡ Some i)
     (new : Doing) (own : IsOwnKept now k a new) (taker : (q : List ℕ) → now.holders q ≡ Some k → IsOwnTaker a new q) (places : List Passed) where
   of_new : (doing : Doing) (i : ℕ) (b : Actor) (t : Task) (past : List Past) → i ≡ k → b ≡ a → Bracket t past ≡ doing → IsOwnKept now k a doing → IsPastKept now i b past
-  of_new doing i b t past p q r kept = subst (λ (z : ℕ). IsPastKept now z b past) (sym p) (subst (λ (z : Actor). IsPastKept now k z past) (sym q) (subst (λ (z : Doing). IsOwnKept now k a z) (sym r) kept))
+  of_new doing i b t past p q r kept = subst (λ (z : ℕ). IsPastKept now z b past) (sym p)
+      (subst (λ (z : Actor). IsPastKept now k z past) (sym q) (subst (λ (z : Doing). IsOwnKept now k a z) (sym r) kept))
 
   new_taker : (doing : Doing) (q : List ℕ) → new ≡ doing → IsOwnTaker a doing q → IsTaker (then_state s k a now new places) q k
   new_taker Nothing q e w = absurd w
   new_taker Stopped q e w = absurd w
-  new_taker (Bracket t past) q e w =
-      (a, t, past, subst (λ (z : Doing). IsActor (then_state s k a now new places) k a z) e (member_new s.members k (record { actor = a; doing = old }) (record { actor = a; doing = new }) at), w.0, w.1)
+  new_taker (Bracket t past) q e w = (
+    a,
+    t,
+    past,
+    subst (λ (z : Doing). IsActor (then_state s k a now new places) k a z) e
+        (member_new s.members k (record { actor = a; doing = old }) (record { actor = a; doing = new }) at),
+    w.0,
+    w.1,
+  )
 
   taker_kept : (q : List ℕ) (i : ℕ) → now.holders q ≡ Some i → IsTaker (then_state s k a now new places) q i
   taker_kept q i h = elim (same_or_other i k) [
@@ -65,7 +73,8 @@ module _ (s : CoreState) (memory : Memory s) (k : ℕ) (a : Actor) (old : Doing)
   memory_then = record {
     remembered = λ i b t past h. elim (member_then s.members k i (record { actor = a; doing = old }) (record { actor = a; doing = new }) (record { actor = b; doing = Bracket t past }) at h) [
       | inl w ↦ of_new new i b t past w.0 (ap (λ (m : Member). m.actor) w.1) (ap (λ (m : Member). m.doing) w.1) own
-      | inr w ↦ others_remember s.disk now i b (c.keeps i b (Bracket t past) w.1 w.0 (λ e. absurd (cc))) (stay (right_name b.name) i w.0) (back (right_name b.name) i w.0) (right_sights false past) (files_seen past) (locks_seen past) (memory.remembered i b t past w.1)
+      | inr w ↦ others_remember s.disk now i b (c.keeps i b (Bracket t past) w.1 w.0 (λ e. absurd (cc))) (stay (right_name b.name) i w.0)
+          (back (right_name b.name) i w.0) (right_sights false past) (files_seen past) (locks_seen past) (memory.remembered i b t past w.1)
     ];
     holder = taker_kept;
   }

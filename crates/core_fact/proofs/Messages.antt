@@ -63,12 +63,14 @@ rewritten files name list base keep text proper leaves (texts, is, mem) =
     go : (o : Result (Option (List ℕ)) ℕ) → outcome_on files (change.Rewrite name list keep) base ≡ o
         → MatchResult o (λ file. (rest : List (List ℕ)) × (texts ≡ base ++ rest) × (file ≡ file_made (join list ++ join rest) keep)) (λ at. (k : ℕ) × (at ≡ k + 1) × IsFirstDifference base texts k)
         → StandsIn (after files (change.Rewrite name list keep) base name) text
-    go (Ok file) e (rest, split, made_is) = made files (change.Rewrite name list keep) base text (list ++ rest) (rewrite-keeps (files name) name list base rest keep (is ∙ ap Some split) proper) (in_rest rest split)
+    go (Ok file) e (rest, split, made_is) = made files (change.Rewrite name list keep) base text (list ++ rest)
+        (rewrite-keeps (files name) name list base rest keep (is ∙ ap Some split) proper) (in_rest rest split)
     go (Err at) e why = subst (λ (f : Files). StandsIn (f name) text) (sym (kept files (change.Rewrite name list keep) base at e)) (texts, is, mem)
 
 here : (files : Files) (c : CoreChange) (text : List ℕ) → Leaves text c → StandsIn (files (file_of c)) text → StandsIn (after_one files c (file_of c)) text
 here files (Add name texts) text leaves (old, is, mem) = made files (change.Add name texts) [] text (old ++ texts) (add-appends (files name) name old texts [] is leaves) (left_in text old texts mem)
-here files (Front name texts) text leaves (old, is, mem) = made files (change.Front name texts) [] text (texts ++ old) (front-prepends (files name) name old texts [] is leaves) (right_in text texts old mem)
+here files (Front name texts) text leaves (old, is, mem) =
+    made files (change.Front name texts) [] text (texts ++ old) (front-prepends (files name) name old texts [] is leaves) (right_in text texts old mem)
 here files (Rewrite name list keep base) text leaves stands = rewritten files name list base keep text leaves.0 leaves.1 stands
 here files (AddRaw name bytes) text leaves stands = absurd leaves
 
@@ -90,5 +92,6 @@ messages_stay (c ∷ cs) files name text leave stands =
     (one files c name text (All-head (λ (c : CoreChange). (file_of c ≢ name) ⊎ Leaves text c) c cs leave) stands)
 
 -- a text that is added to a mailbox, with proper ones alone, is a message of it
-pub added : (files : Files) (name text : List ℕ) (old texts : List (List ℕ)) → list_of_file (files name) ≡ Some old → All IsProper texts → Mem text texts → Stands (after_one files (Add name texts)) name text
+pub added : (files : Files) (name text : List ℕ) (old texts : List (List ℕ)) → list_of_file (files name) ≡ Some old → All IsProper texts
+    → Mem text texts → Stands (after_one files (Add name texts)) name text
 added files name text old texts is proper mem = made files (change.Add name texts) [] text (old ++ texts) (add-appends (files name) name old texts [] is proper) (right_in text old texts mem)

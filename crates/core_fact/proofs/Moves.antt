@@ -106,7 +106,8 @@ module _ (actors : List Actor) (a : Actor) (x : Deed) (xs : Acts) where
         same = r.same;
         moved = moved-then x.actor s mid r.now (record { actor = a; doing = next }) (record { actor = a; doing = r.doing }) moved r.moved;
         disk = r.disk ∙ ap (λ (d : CoreDisk). disk_once d x) disk;
-        places = r.places ∙ ap (λ (p : List Passed). p ++ passed_at a x.task x.event (seen_by x.actor mid.disk)) places ∙ ap (λ (d : CoreDisk). s.places ++ passed_at a x.task x.event (seen_by x.actor d)) disk;
+        places = r.places ∙ ap (λ (p : List Passed). p ++ passed_at a x.task x.event (seen_by x.actor mid.disk)) places
+            ∙ ap (λ (d : CoreDisk). s.places ++ passed_at a x.task x.event (seen_by x.actor d)) disk;
         will = r.will;
       }
 
@@ -124,7 +125,13 @@ module _ (actors : List Actor) (a : Actor) (x : Deed) (xs : Acts) where
         calls = made;
         now = now;
         doing = turn.doing;
-        shows = (now, [], stepped-turn s x.actor what a (Bracket t past) turn due.seat (rw call is), sym (append-nil made) ∙ ap (λ (y : List Deed). y ++ []) (sym (calls-turn s x.actor what a (Bracket t past) due.seat ∙ rw call refl)), (refl, refl));
+        shows = (
+          now,
+          [],
+          stepped-turn s x.actor what a (Bracket t past) turn due.seat (rw call is),
+          sym (append-nil made) ∙ ap (λ (y : List Deed). y ++ []) (sym (calls-turn s x.actor what a (Bracket t past) due.seat ∙ rw call refl)),
+          (refl, refl),
+        );
         same = same;
         moved = moved-turn s x.actor m turn due.seat;
         disk = ap (disk_then x.actor s.disk) disk;

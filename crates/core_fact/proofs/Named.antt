@@ -16,7 +16,8 @@ use Rattle.core_fact.proofs.Heart.{others_stay}
 use Rattle.core_fact.proofs.Standing.{Stood, as_before, is_gone, is_own}
 use Rattle.core_steps.proofs.Ground.{IsNamed}
 
-module _ (j : Job) (names : List (List ℕ)) (d : Disk) (e : Event) (mem : Mem j.actor names) (orderly : Orderly names d.files d.locks) (touch : Touches j.actor d e) (stood : Stood j d (after d e)) where
+module _ (j : Job) (names : List (List ℕ)) (d : Disk) (e : Event) (mem : Mem j.actor names) (orderly : Orderly names d.files d.locks)
+    (touch : Touches j.actor d e) (stood : Stood j d (after d e)) where
   -- a name stays a named one, as long as a lock or a staged file is there
   pub named_after : (c : List ℕ) (r : Record) (m : List ℕ) (u : ℕ) → Mem c names → standing_in d.files c ≡ Some r → r.token ≡ u → Mem m (names_of r)
       → (is_some ((after d e).files (staged_name u m)) ≡ true) ⊎ ((after d e).locks m ≡ Some u) → IsNamed (after d e).files c u m
@@ -33,7 +34,8 @@ module _ (j : Job) (names : List (List ℕ)) (d : Disk) (e : Event) (mem : Mem j
           let token : q.token ≡ u = ap (λ (z : Record). z.token) q_is ∙ same in
           let mq : Mem m (names_of q) = subst (λ (z : Record). Mem m (names_of z)) (sym q_is) mm in
           absurd (elim left [
-            | inl some ↦ (let gone : (after d e).files (staged_name u m) ≡ None = subst (λ (t : ℕ). (after d e).files (staged_name t m) ≡ None) token (cleared.staged m mq) in both _ some (ap is_some gone))
+            | inl some ↦ (let gone : (after d e).files (staged_name u m) ≡ None =
+                subst (λ (t : ℕ). (after d e).files (staged_name t m) ≡ None) token (cleared.staged m mq) in both _ some (ap is_some gone))
             | inr lock ↦ cleared.locks m mq (lock ∙ ap Some (sym token))
           ])
       go here (is_own q q_stands token names (inl none)) = absurd (let w : None ≡ Some r = sym none ∙ here in cc)

@@ -23,7 +23,8 @@ use Rattle.core_steps.proofs.Others.{lock_stays}
 use Rattle.core_fact.proofs.Heart.{others_stay}
 use Rattle.core_fact.proofs.Standing.{Stood, as_before, is_gone, is_own, stands_after}
 
-module _ (j : Job) (job : IsJob j) (actors : List (List ℕ)) (d : Disk) (s : State) (e : Event) (mem : Mem j.actor actors) (orderly : Orderly actors d.files d.locks) (is : IsNext (next j s) e) (agrees : Agrees d e) (known : Knows j s d)
+module _ (j : Job) (job : IsJob j) (actors : List (List ℕ)) (d : Disk) (s : State) (e : Event) (mem : Mem j.actor actors)
+    (orderly : Orderly actors d.files d.locks) (is : IsNext (next j s) e) (agrees : Agrees d e) (known : Knows j s d)
     -- the job's names are no record names, and its token stands in no record of another name
     (free : (b n : List ℕ) → Mem b actors → Mem n (all_of j) → is_record_name b n ≡ false)
     (mine : (b : List ℕ) (r : Record) → Mem b actors → standing_in d.files b ≡ Some r → r.token ≡ j.token → b ≡ j.actor) where
@@ -45,7 +46,8 @@ module _ (j : Job) (job : IsJob j) (actors : List (List ℕ)) (d : Disk) (s : St
   ]
     where
       go : b ≡ j.actor → Stood j d (after d e) → (standing_in d.files b ≡ Some r) ⊎ ((b ≡ j.actor) × (r.token ≡ j.token) × (names_of r ≡ all_of j))
-      go same (as_before w) = inl (ap (λ (z : List ℕ). record_in (d.files (record_name z))) same ∙ sym (ap record_in w) ∙ ap (λ (z : List ℕ). record_in ((after d e).files (record_name z))) (sym same) ∙ h)
+      go same (as_before w) = inl (ap (λ (z : List ℕ). record_in (d.files (record_name z))) same ∙ sym (ap record_in w)
+          ∙ ap (λ (z : List ℕ). record_in ((after d e).files (record_name z))) (sym same) ∙ h)
       go same (is_gone q st cl w) = absurd (let x : None ≡ Some r = sym w ∙ ap (λ (z : List ℕ). record_in ((after d e).files (record_name z))) (sym same) ∙ h in cc)
       go same (is_own q w t n was) =
           let x : Some q ≡ Some r = sym w ∙ ap (λ (z : List ℕ). record_in ((after d e).files (record_name z))) (sym same) ∙ h in
@@ -73,7 +75,8 @@ module _ (j : Job) (job : IsJob j) (actors : List (List ℕ)) (d : Disk) (s : St
   pub orderly_after : Orderly actors (after d e).files (after d e).locks
   orderly_after = record {
     sound = λ b m. elim (same_or_not b j.actor) [
-      | inl p ↦ subst (λ (z : List ℕ). IsSoundAt z (after d e).files (after d e).locks) (sym p.0) (Moments.own_step j job d (settled_files j.actor d) (settled_locks j.actor d) (λ n. refl) (λ n. refl) (orderly.sound j.actor mem) s e is agrees known).shows.sound
+      | inl p ↦ subst (λ (z : List ℕ). IsSoundAt z (after d e).files (after d e).locks) (sym p.0)
+          (Moments.own_step j job d (settled_files j.actor d) (settled_locks j.actor d) (λ n. refl) (λ n. refl) (orderly.sound j.actor mem) s e is agrees known).shows.sound
       | inr p ↦ sound_other b m p.0
     ];
     plain = λ a b ma mb r n h mn. elim (record_then a ma r h) [

@@ -30,9 +30,21 @@ IsPublished a d e = Unit {0}
 module _ (j : Job) (d : Disk) where
   pub own_published : IsSound j.actor d → (s : State) (e : Event) → IsNext (next j s) e → Agrees d e → Knows j s d → IsPublished j.actor d e
   own_published sound (Placing r x xs ls th) _ (publishes {done = true} {failed = true}) agrees k =
-      inr (r, record { right = k.0.closing.right; stands = k.0.closing.stands }, k.0.within.each x.name (inl refl), refl, sound.locked r x.name k.0.closing.stands k.0.go (k.0.within.each x.name (inl refl)) (agrees refl))
+      inr (
+        r,
+        record { right = k.0.closing.right; stands = k.0.closing.stands },
+        k.0.within.each x.name (inl refl),
+        refl,
+        sound.locked r x.name k.0.closing.stands k.0.go (k.0.within.each x.name (inl refl)) (agrees refl),
+      )
   own_published sound (Placing r x xs ls th) _ (publishes {done = true} {failed = false}) agrees k =
-      inr (r, record { right = k.0.closing.right; stands = k.0.closing.stands }, k.0.within.each x.name (inl refl), refl, sound.locked r x.name k.0.closing.stands k.0.go (k.0.within.each x.name (inl refl)) (sym agrees))
+      inr (
+        r,
+        record { right = k.0.closing.right; stands = k.0.closing.stands },
+        k.0.within.each x.name (inl refl),
+        refl,
+        sound.locked r x.name k.0.closing.stands k.0.go (k.0.within.each x.name (inl refl)) (sym agrees),
+      )
   own_published sound (Placing r x xs ls th) _ (publishes {done = false} {failed = f}) agrees k = tt
   own_published sound Publishing _ (publishes {done = true} {failed = f}) agrees k = inl (refl, refl)
   own_published sound Publishing _ (publishes {done = false} {failed = f}) agrees k = tt

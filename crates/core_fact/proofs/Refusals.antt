@@ -57,17 +57,20 @@ module _ (actors : List Actor) (a : Actor) (changes : List CoreChange) where
   bad_name n h = elim (and_none (is_file_name a.name n) (not (is_any_record_name actors n)) h) [ inl y ↦ inl y | inr y ↦ inr (not_false (is_any_record_name actors n) y) ]
 
   bad_if : may_commit actors a changes ≡ false → AreBadChanges actors a changes
-  bad_if h = elim (and_none (nat_lt 0 (length changes) && nat_le (length (files_named changes)) file_limit) (list_all (λ n. is_file_name a.name n && not (is_any_record_name actors n)) (files_named changes)) h) [
-    | inl y ↦ elim (and_none (nat_lt 0 (length changes)) (nat_le (length (files_named changes)) file_limit) y) [
-      | inl z ↦ inl (is_empty changes z)
-      | inr z ↦ inr (inl (leb-false (length (files_named changes)) file_limit z))
-    ]
-    | inr y ↦ (let w = not_all (λ n. is_file_name a.name n && not (is_any_record_name actors n)) (files_named changes) y in inr (inr (w.0, w.1, bad_name w.0 w.2)))
-  ]
+  bad_if h = elim (and_none (nat_lt 0 (length changes) && nat_le (length (files_named changes)) file_limit)
+      (list_all (λ n. is_file_name a.name n && not (is_any_record_name actors n)) (files_named changes)) h) [
+        | inl y ↦ elim (and_none (nat_lt 0 (length changes)) (nat_le (length (files_named changes)) file_limit) y) [
+          | inl z ↦ inl (is_empty changes z)
+          | inr z ↦ inr (inl (leb-false (length (files_named changes)) file_limit z))
+        ]
+        | inr y ↦ (let w = not_all (λ n. is_file_name a.name n && not (is_any_record_name actors n)) (files_named changes) y in inr (inr (w.0, w.1, bad_name w.0 w.2)))
+      ]
 
   good_parts : may_commit actors a changes ≡ true
-      → ((nat_lt 0 (length changes) && nat_le (length (files_named changes)) file_limit) ≡ true) × (list_all (λ n. is_file_name a.name n && not (is_any_record_name actors n)) (files_named changes) ≡ true)
-  good_parts y = and_parts (nat_lt 0 (length changes) && nat_le (length (files_named changes)) file_limit) (list_all (λ n. is_file_name a.name n && not (is_any_record_name actors n)) (files_named changes)) y
+      → ((nat_lt 0 (length changes) && nat_le (length (files_named changes)) file_limit) ≡ true)
+      × (list_all (λ n. is_file_name a.name n && not (is_any_record_name actors n)) (files_named changes) ≡ true)
+  good_parts y = and_parts (nat_lt 0 (length changes) && nat_le (length (files_named changes)) file_limit)
+      (list_all (λ n. is_file_name a.name n && not (is_any_record_name actors n)) (files_named changes)) y
 
   if_good : AreBadChanges actors a changes → may_commit actors a changes ≡ true → ⊥
   if_good (inl none) y =

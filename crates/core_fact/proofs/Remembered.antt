@@ -53,7 +53,10 @@ lock_or_not (Some u) t = elim (cases_Bool (u == t)) [
 ]
 
 -- a change by others keeps it
-module _ (d now : CoreDisk) (i : ℕ) (b : Actor) (keep : Keeps b.name b.token (seen_by i d) (seen_by i now)) (stay : d.holders (right_name b.name) ≡ Some i → now.holders (right_name b.name) ≡ Some i) (back : now.holders (right_name b.name) ≡ Some i → d.holders (right_name b.name) ≡ Some i) (has : Bool) (files : Sights (List ℕ)) (locks : Sights ℕ) (was : IsRemembered d i b has files locks) where
+module _ (d now : CoreDisk) (i : ℕ) (b : Actor) (keep : Keeps b.name b.token (seen_by i d) (seen_by i now))
+    (stay : d.holders (right_name b.name) ≡ Some i → now.holders (right_name b.name) ≡ Some i)
+    (back : now.holders (right_name b.name) ≡ Some i → d.holders (right_name b.name) ≡ Some i) (has : Bool) (files : Sights (List ℕ))
+    (locks : Sights ℕ) (was : IsRemembered d i b has files locks) where
   seen_right : now.holders (right_name b.name) ≡ Some i → HasRight b.name (seen_by i d)
   seen_right h = ap (holder_for i) (back h) ∙ own_holder i
 

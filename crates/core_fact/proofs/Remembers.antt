@@ -41,7 +41,8 @@ use Rattle.core_fact.proofs.Told.{IsNotAt, told_after, locked_before}
 use Rattle.core_fact.proofs.Published.{IsPublished, own_published, is_taking, taking_first, own_before, right_seen_after}
 use Rattle.core_fact.proofs.Remembered.{IsRemembered, nothing_seen}
 
-module _ (s : CoreState) (g : Ground s) (k : ℕ) (a : Actor) (t : Task) (past : List Past) (at : IsActor s k a (Bracket t past)) (e : Event) (is : IsNext (next (job_of a t) (state_of a t past)) e) (agrees : Agrees (seen_by k s.disk) e)
+module _ (s : CoreState) (g : Ground s) (k : ℕ) (a : Actor) (t : Task) (past : List Past) (at : IsActor s k a (Bracket t past)) (e : Event)
+    (is : IsNext (next (job_of a t) (state_of a t past)) e) (agrees : Agrees (seen_by k s.disk) e)
     (was : IsRemembered s.disk k a (right_sights false past) (files_seen past) (locks_seen past)) where
   mine : is_foreign e ≡ false
   mine = own s g k a t past at e is agrees
@@ -53,7 +54,8 @@ module _ (s : CoreState) (g : Ground s) (k : ℕ) (a : Actor) (t : Task) (past :
   among = mem s g k a t past at e is agrees
 
   published : IsPublished a.name (seen_by k s.disk) e
-  published = subst (λ (z : List ℕ). IsPublished z (seen_by k s.disk) e) (job_name a t) (own_published (job_of a t) (seen_by k s.disk) (sound s g k a t past at e is agrees) (state_of a t past) e is agrees (known s g k a t past at e is agrees))
+  published = subst (λ (z : List ℕ). IsPublished z (seen_by k s.disk) e) (job_name a t)
+      (own_published (job_of a t) (seen_by k s.disk) (sound s g k a t past at e is agrees) (state_of a t past) e is agrees (known s g k a t past at e is agrees))
 
   lawful : (r : Record) (n : List ℕ) → Held a.name r (seen_by k s.disk) → Mem n (names_of r) → is_lawful n ≡ true
   lawful r n h m = stands-lawful (s.disk.files (record_name a.name)) r n h.stands m
@@ -145,7 +147,8 @@ module _ (s : CoreState) (g : Ground s) (k : ℕ) (a : Actor) (t : Task) (past :
 
   module _ (h : holder_then k (s.disk.holders (right_name a.name)) ((after (seen_by k s.disk) e).rights (right_name a.name)) ≡ Some k) where
     record_then : (n : List ℕ) → is_record_name a.name n ≡ true → IsSeen (file_sights (files_seen past) e) (after (seen_by k s.disk) e).files n
-    record_then n so = seen_after (files_seen past) (seen_by k s.disk) e n mine agrees (from_record n so (record_seen (new_name a.name) (or_right _ _ (same_refl (new_name a.name))) h) e published) (record_seen n so h)
+    record_then n so = seen_after (files_seen past) (seen_by k s.disk) e n mine agrees
+        (from_record n so (record_seen (new_name a.name) (or_right _ _ (same_refl (new_name a.name))) h) e published) (record_seen n so h)
 
     module _ (r : Record) (stands : standing_in (after (seen_by k s.disk) e).files a.name ≡ Some r) where
       lock_was : (n : List ℕ) → standing_in s.disk.files a.name ≡ Some r → s.disk.locks n ≡ Some r.token → (l : Option ℕ) → locks_seen past n ≡ Some l → l ≡ Some r.token
@@ -156,7 +159,8 @@ module _ (s : CoreState) (g : Ground s) (k : ℕ) (a : Actor) (t : Task) (past :
 
       found_lock_then : (n : List ℕ) (l : Option ℕ) → lock_sights (locks_seen past) e n ≡ Some l → (after (seen_by k s.disk) e).locks n ≡ Some r.token → l ≡ Some r.token
       found_lock_then n l x lock = elim (record_from s g k a t past at e is agrees r stands) [
-        | inl stood ↦ lock_told_after (locks_seen past) (seen_by k s.disk) e n r.token (λ o. (l : Option ℕ) → o ≡ Some l → l ≡ Some r.token) mine (λ l y. sym (known_one (Some r.token) l y)) (lock_was n stood) lock l x
+        | inl stood ↦ lock_told_after (locks_seen past) (seen_by k s.disk) e n r.token (λ o. (l : Option ℕ) → o ≡ Some l → l ≡ Some r.token) mine
+            (λ l y. sym (known_one (Some r.token) l y)) (lock_was n stood) lock l x
         | inr token ↦ known_one l (Some r.token) (sym x ∙ own_lock_then n (lock ∙ ap Some token) ∙ ap (λ (u : ℕ). Some (Some u)) (sym token))
       ]
 
@@ -173,9 +177,11 @@ module _ (s : CoreState) (g : Ground s) (k : ℕ) (a : Actor) (t : Task) (past :
       ]
 
   right_kept : right_sights (right_sights false past) (Shown e ∷ []) ≡ true → holder_then k (s.disk.holders (right_name a.name)) ((after (seen_by k s.disk) e).rights (right_name a.name)) ≡ Some k
-  right_kept x = ap (holder_then k (s.disk.holders (right_name a.name))) (right_seen_after a.name (seen_by k s.disk) (right_sights false past) e touched mine (λ y. ap (holder_for k) (was.has_right y) ∙ own_holder k) x)
+  right_kept x = ap (holder_then k (s.disk.holders (right_name a.name)))
+      (right_seen_after a.name (seen_by k s.disk) (right_sights false past) e touched mine (λ y. ap (holder_for k) (was.has_right y) ∙ own_holder k) x)
 
-  remembered_by : IsRemembered (disk_then k s.disk (after (seen_by k s.disk) e)) k a (right_sights (right_sights false past) (Shown e ∷ [])) (file_sights (files_seen past) e) (lock_sights (locks_seen past) e)
+  remembered_by : IsRemembered (disk_then k s.disk (after (seen_by k s.disk) e)) k a (right_sights (right_sights false past) (Shown e ∷ []))
+      (file_sights (files_seen past) e) (lock_sights (locks_seen past) e)
   remembered_by = record {
     has_right = right_kept;
     record_stays = λ n c h so x. record_then h n so c x;
@@ -188,8 +194,12 @@ module _ (s : CoreState) (g : Ground s) (k : ℕ) (a : Actor) (t : Task) (past :
     own_staged = λ n some. told_after (files_seen past) (seen_by k s.disk) e (staged_name a.token n) mine agrees (not_at a.token n e published touched) (was.own_staged n) some;
   }
 
-  pub remembered_then : IsRemembered (disk_then k s.disk (after (seen_by k s.disk) e)) k a (right_sights false (past ++ Shown e ∷ [])) (files_seen (past ++ Shown e ∷ [])) (locks_seen (past ++ Shown e ∷ []))
+  pub remembered_then : IsRemembered (disk_then k s.disk (after (seen_by k s.disk) e)) k a (right_sights false (past ++ Shown e ∷ []))
+      (files_seen (past ++ Shown e ∷ [])) (locks_seen (past ++ Shown e ∷ []))
   remembered_then =
-      subst (λ (b : Bool). IsRemembered (disk_then k s.disk (after (seen_by k s.disk) e)) k a b (files_seen (past ++ Shown e ∷ [])) (locks_seen (past ++ Shown e ∷ []))) (sym (right_at_end false past (Shown e)))
-      (subst (λ (f : Sights (List ℕ)). IsRemembered (disk_then k s.disk (after (seen_by k s.disk) e)) k a (right_sights (right_sights false past) (Shown e ∷ [])) f (locks_seen (past ++ Shown e ∷ []))) (sym (sights_at_end file_sights no_sights past e))
-      (subst (λ (l : Sights ℕ). IsRemembered (disk_then k s.disk (after (seen_by k s.disk) e)) k a (right_sights (right_sights false past) (Shown e ∷ [])) (file_sights (files_seen past) e) l) (sym (sights_at_end lock_sights no_sights past e)) remembered_by))
+      subst (λ (b : Bool). IsRemembered (disk_then k s.disk (after (seen_by k s.disk) e)) k a b (files_seen (past ++ Shown e ∷ []))
+      (locks_seen (past ++ Shown e ∷ []))) (sym (right_at_end false past (Shown e)))
+      (subst (λ (f : Sights (List ℕ)). IsRemembered (disk_then k s.disk (after (seen_by k s.disk) e)) k a
+      (right_sights (right_sights false past) (Shown e ∷ [])) f (locks_seen (past ++ Shown e ∷ []))) (sym (sights_at_end file_sights no_sights past e))
+      (subst (λ (l : Sights ℕ). IsRemembered (disk_then k s.disk (after (seen_by k s.disk) e)) k a
+      (right_sights (right_sights false past) (Shown e ∷ [])) (file_sights (files_seen past) e) l) (sym (sights_at_end lock_sights no_sights past e)) remembered_by))

@@ -85,7 +85,8 @@ module _ (actors : List Actor) where
   all_shown (x ∷ xs) s listed answered wills =
       let f = first_made s x xs (member_at s.members x.actor) refl listed answered (wills x.actor) in
       let m : Made actors s f.0.actor x (done_of x.actor xs) = f.2 in
-      let r : IsShown m.now xs = all_shown xs m.now (m.moved.actors ∙ listed) (subst (λ (d : CoreDisk). AreAnswered d xs) (sym m.disk) answered.3) (wills_then s m.now x xs f.0.actor m.doing m.moved m.will wills) in
+      let r : IsShown m.now xs = all_shown xs m.now (m.moved.actors ∙ listed) (subst (λ (d : CoreDisk). AreAnswered d xs) (sym m.disk) answered.3)
+      (wills_then s m.now x xs f.0.actor m.doing m.moved m.will wills) in
       record {
         steps = m.steps ++ r.steps;
         calls = m.calls ++ r.calls;

@@ -92,7 +92,8 @@ seen_after old d (event.Publish from to false failed) n own agrees fromed was = 
 seen_after old d (event.Extend m at tail failed) n own agrees from was = λ c e. elim (same_or_not n m) [
   | inl p ↦
       ap (with_at d.files m (extended (d.files m) at tail)) p.0 ∙ put_here d.files m (extended (d.files m) at tail)
-      ∙ extended_seen (old m) (d.files m) at tail (subst (λ (z : List ℕ). IsSeen old d.files z) p.0 was) c (sym (ap (sight_at old m (extended_sight (old m) at tail)) p.0 ∙ sight_here old m (extended_sight (old m) at tail)) ∙ e)
+      ∙ extended_seen (old m) (d.files m) at tail (subst (λ (z : List ℕ). IsSeen old d.files z) p.0 was) c
+      (sym (ap (sight_at old m (extended_sight (old m) at tail)) p.0 ∙ sight_here old m (extended_sight (old m) at tail)) ∙ e)
   | inr p ↦ put_there d.files m n (extended (d.files m) at tail) p.0 ∙ was c (sym (sight_there old m n (extended_sight (old m) at tail) p.0) ∙ e)
 ]
 seen_after old d (event.Erase m true failed) n own agrees from was = at_one old d.files m n (Some None) None (known_one None) was

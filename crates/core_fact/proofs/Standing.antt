@@ -38,7 +38,8 @@ pub data Stood (j : Job) (d now : Disk) : Type 0 where
   is_gone : (r : Record) → standing j.actor d ≡ Some r → Cleared r now → standing j.actor now ≡ None → Stood j d now
   is_own : (r : Record) → standing j.actor now ≡ Some r → r.token ≡ j.token → names_of r ≡ all_of j → IsNoneOrOwn j d → Stood j d now
 
-module _ (j : Job) (job : IsJob j) (d : Disk) (sound : IsSound j.actor d) (plain : (r : Record) (n : List ℕ) → standing j.actor d ≡ Some r → Mem n (names_of r) → is_record_name j.actor n ≡ false) where
+module _ (j : Job) (job : IsJob j) (d : Disk) (sound : IsSound j.actor d)
+    (plain : (r : Record) (n : List ℕ) → standing j.actor d ≡ Some r → Mem n (names_of r) → is_record_name j.actor n ≡ false) where
   put_elsewhere : (n : List ℕ) (c : Option (List ℕ)) → record_name j.actor ≢ n → with_at d.files n c (record_name j.actor) ≡ d.files (record_name j.actor)
   put_elsewhere n c ne = put_there d.files n (record_name j.actor) c ne
 
@@ -88,7 +89,8 @@ module _ (j : Job) (job : IsJob j) (d : Disk) (sound : IsSound j.actor d) (plain
   stands_after (Timing time) _ asks agrees k = as_before refl
   stands_after Looking _ loads agrees k = as_before refl
   stands_after (Undoing r n ns ls th) _ (erases {done = b} {failed = f}) agrees k = erased (staged_name r.token n) b f (record-staged r.token n j.actor)
-  stands_after (Placing r x xs ls th) _ (publishes {done = b} {failed = f}) agrees k = placed (staged_name r.token x.name) x.name b f (record-staged r.token x.name j.actor) (item_file r x xs ls th k.0)
+  stands_after (Placing r x xs ls th) _ (publishes {done = b} {failed = f}) agrees k =
+      placed (staged_name r.token x.name) x.name b f (record-staged r.token x.name j.actor) (item_file r x xs ls th k.0)
   stands_after (Testing r x xs ls) _ loads agrees k = as_before refl
   stands_after (Removing r x xs ls th) _ (erases {done = b} {failed = f}) agrees k = erased x.name b f (item_file r x xs ls th k.0)
   stands_after (Extending r x xs ls th) _ extends agrees k = as_before (put_elsewhere x.name _ (item_file r x xs ls th k.0))
@@ -100,7 +102,8 @@ module _ (j : Job) (job : IsJob j) (d : Disk) (sound : IsSound j.actor d) (plain
   stands_after Preparing _ stages agrees k = as_before (put_elsewhere (new_name j.actor) _ (record-new j.actor))
   stands_after Preparing _ stage_fails agrees k = as_before (put_elsewhere (new_name j.actor) _ (record-new j.actor))
   stands_after Publishing _ (publishes {done = b} {failed = f}) agrees k =
-      published (prepare_of j) b f (ap record_in (k.0.new (written (prepare_of j)) refl) ∙ record_of-written (written (prepare_of j)) (prepare_of j) k.1) refl (names-prepare j) (inl (ap record_in k.0.none))
+      published (prepare_of j) b f (ap record_in (k.0.new (written (prepare_of j)) refl)
+      ∙ record_of-written (written (prepare_of j)) (prepare_of j) k.1) refl (names-prepare j) (inl (ap record_in k.0.none))
   stands_after (Locking ls x left) _ (locks {got = g} {failed = f}) agrees k = locked x.name j.token g f
   stands_after (Loading made x left) _ loads agrees k = as_before refl
   stands_after (Staging ns made x left) _ stages agrees k = as_before (put_elsewhere (staged_name j.token x.edit.name) _ (record-staged j.token x.edit.name j.actor))
@@ -108,7 +111,8 @@ module _ (j : Job) (job : IsJob j) (d : Disk) (sound : IsSound j.actor d) (plain
   stands_after (Deciding made) _ stages agrees k = as_before (put_elsewhere (new_name j.actor) _ (record-new j.actor))
   stands_after (Deciding made) _ stage_fails agrees k = as_before (put_elsewhere (new_name j.actor) _ (record-new j.actor))
   stands_after (Committing made) _ (publishes {done = b} {failed = f}) agrees k =
-      published (go_of j made) b f (Decision.new_go j job d (settled_files j.actor d) (settled_locks j.actor d) (λ n. refl) (λ n. refl) sound made k) refl (names-entries_for (λ n. way_made (made_at made n)) (all_of j)) (inr (prepare_of j, k.0.closing.stands, refl, names-prepare j))
+      published (go_of j made) b f (Decision.new_go j job d (settled_files j.actor d) (settled_locks j.actor d) (λ n. refl)
+      (λ n. refl) sound made k) refl (names-entries_for (λ n. way_made (made_at made n)) (all_of j)) (inr (prepare_of j, k.0.closing.stands, refl, names-prepare j))
   stands_after Checking _ loads agrees k = as_before refl
   stands_after (Releasing a) _ releases agrees k = as_before refl
   stands_after (Ended a) _ is agrees k = absurd is

@@ -45,19 +45,22 @@ event_settles : (s : CoreState) (g : Ground s) (k : ℕ) (a : Actor) (t : Task) 
     → (n : List ℕ) → settled_by (names_in s) (after (seen_by k s.disk) e).files n ≡ changed_by (passed_at a t e (seen_by k s.disk)) (settled_by (names_in s) s.disk.files) n
 event_settles s g k a (task.Commit changes moment) past at e is agrees n =
     decision_settles (job_of a (task.Commit changes moment)) (g.job k a (task.Commit changes moment) past at) (names_in s) (seen_by k s.disk) (state_of a (task.Commit changes moment) past) e
-    (member_named s.members k (record { actor = a; doing = Bracket (task.Commit changes moment) past }) at) g.orderly (changed_called s g k a (task.Commit changes moment) past at e is agrees).orderly is agrees (g.knows k a (task.Commit changes moment) past at)
+    (member_named s.members k (record { actor = a; doing = Bracket (task.Commit changes moment) past }) at) g.orderly
+    (changed_called s g k a (task.Commit changes moment) past at e is agrees).orderly is agrees (g.knows k a (task.Commit changes moment) past at)
     (own_event (next (job_of a (task.Commit changes moment)) (state_of a (task.Commit changes moment) past)) e is)
     (job_free s.members a changes moment (g.allowed k a changes moment past at))
     (λ b r mb stands same. g.token_at_home k a (Bracket (task.Commit changes moment) past) b r at mb stands same) n
     ∙ go (is_decision (job_of a (task.Commit changes moment)) e (seen_by k s.disk))
   where
     go : (b : Bool)
-        → (if b then applied (edits_of_all changes) (settled_by (names_in s) s.disk.files) n else settled_by (names_in s) s.disk.files n) ≡ changed_by (if b then (a.token, changes) ∷ [] else []) (settled_by (names_in s) s.disk.files) n
+        → (if b then applied (edits_of_all changes) (settled_by (names_in s) s.disk.files) n else settled_by (names_in s) s.disk.files n)
+        ≡ changed_by (if b then (a.token, changes) ∷ [] else []) (settled_by (names_in s) s.disk.files) n
     go true = edits_are_changes changes (settled_by (names_in s) s.disk.files) n
     go false = refl
 event_settles s g k a task.Recover past at e is agrees n =
     decision_settles (job_of a task.Recover) (g.job k a task.Recover past at) (names_in s) (seen_by k s.disk) (state_of a task.Recover past) e
-    (member_named s.members k (record { actor = a; doing = Bracket task.Recover past }) at) g.orderly (changed_called s g k a task.Recover past at e is agrees).orderly is agrees (g.knows k a task.Recover past at)
+    (member_named s.members k (record { actor = a; doing = Bracket task.Recover past }) at) g.orderly
+    (changed_called s g k a task.Recover past at e is agrees).orderly is agrees (g.knows k a task.Recover past at)
     (own_event (next (job_of a task.Recover) (state_of a task.Recover past)) e is)
     (λ b n mb mn. absurd mn)
     (λ b r mb stands same. g.token_at_home k a (Bracket task.Recover past) b r at mb stands same) n
@@ -87,7 +90,12 @@ module _ (s : CoreState) (g : Ground s) (k : ℕ) (a : Actor) where
       → IsGoodTurn s k (record { actor = a; doing = Bracket t past }) (shown a t past (seen_by k s.disk) e)
   event_good t past at c nx e of agrees =
       let is : IsNext (next (job_of a t) (state_of a t past)) e = subst (λ (o : Option Call). IsNext o e) (sym nx) of in
-      record { ground = ground_called s g k a t past at e is agrees; memory = λ mem. memory_called s g mem k a t past at (s.places ++ passed_at a t e (seen_by k s.disk)) e is agrees; settles = event_settles s g k a t past at e is agrees }
+      record {
+        ground = ground_called s g k a t past at e is agrees;
+        memory =
+            λ mem. memory_called s g mem k a t past at (s.places ++ passed_at a t e (seen_by k s.disk)) e is agrees;
+        settles = event_settles s g k a t past at e is agrees;
+      }
 
   cut_good : (t : Task) (past : List Past) (at : IsActor s k a (Bracket t past)) (c : Call) → next (job_of a t) (state_of a t past) ≡ Some c → (part : Part)
       → IsGoodTurn s k (record { actor = a; doing = Bracket t past }) (stopping a t (seen_by k s.disk) (asked (seen_by k s.disk) c) part)
@@ -99,7 +107,9 @@ module _ (s : CoreState) (g : Ground s) (k : ℕ) (a : Actor) where
       let same = stopped_is (seen_by k s.disk) c part in
       record {
         ground = subst (λ (z : Disk). Ground (then_state s k a (disk_then k s.disk z) Stopped (s.places ++ passed_at a t e (seen_by k s.disk)))) (sym same) (ground_cut s g k a t past at e is so.1);
-        memory = λ mem. subst (λ (z : Disk). Memory (then_state s k a (disk_then k s.disk z) Stopped (s.places ++ passed_at a t e (seen_by k s.disk)))) (sym same) (memory_cut s g mem k a t past at (s.places ++ passed_at a t e (seen_by k s.disk)) e is so.1);
+        memory = λ mem. subst (λ (z : Disk). Memory
+            (then_state s k a (disk_then k s.disk z) Stopped (s.places ++ passed_at a t e (seen_by k s.disk)))) (sym same)
+            (memory_cut s g mem k a t past at (s.places ++ passed_at a t e (seen_by k s.disk)) e is so.1);
         settles = λ n. ap (λ (z : Disk). settled_by (names_in s) z.files n) same ∙ event_settles s g k a t past at e is so.1 n;
       }
 
@@ -108,8 +118,12 @@ module _ (s : CoreState) (g : Ground s) (k : ℕ) (a : Actor) where
   inside_good t past at (kind.Commit changes moment) c nx = tt
   inside_good t past at kind.Recover c nx = tt
   inside_good t past at kind.Call c nx = let so = answered_so (seen_by k s.disk) c in event_good t past at c nx (answered (seen_by k s.disk) c) so.0 so.1
-  inside_good t past at kind.Refuse c nx = if_good s k (record { actor = a; doing = Bracket t past }) (may_want (state_of a t past)) (wanting a t past (seen_by k s.disk)) (λ may. record { ground = ground_wanted s g k a t past at; memory = λ mem. memory_wanted s g mem k a t past at may (s.places ++ []); settles = λ n. refl })
-  inside_good t past at (kind.Fail part) c nx = if_good s k (record { actor = a; doing = Bracket t past }) (can_fail c) (shown a t past (seen_by k s.disk) (failing (seen_by k s.disk) c part)) (λ may. let so = failing_so (seen_by k s.disk) c part may in event_good t past at c nx (failing (seen_by k s.disk) c part) so.0 so.1)
+  inside_good t past at kind.Refuse c nx =
+      if_good s k (record { actor = a; doing = Bracket t past }) (may_want (state_of a t past)) (wanting a t past (seen_by k s.disk))
+      (λ may. record { ground = ground_wanted s g k a t past at; memory = λ mem. memory_wanted s g mem k a t past at may (s.places ++ []); settles = λ n. refl })
+  inside_good t past at (kind.Fail part) c nx =
+      if_good s k (record { actor = a; doing = Bracket t past }) (can_fail c) (shown a t past (seen_by k s.disk) (failing (seen_by k s.disk) c part))
+      (λ may. let so = failing_so (seen_by k s.disk) c part may in event_good t past at c nx (failing (seen_by k s.disk) c part) so.0 so.1)
   inside_good t past at (kind.Stop part) c nx = cut_good t past at c nx part
 
   next_good : (t : Task) (past : List Past) (at : IsActor s k a (Bracket t past)) (what : StepKind) (o : Option Call) → next (job_of a t) (state_of a t past) ≡ o
@@ -118,7 +132,10 @@ module _ (s : CoreState) (g : Ground s) (k : ℕ) (a : Actor) where
   next_good t past at what (Some c) nx = inside_good t past at what c nx
 
   outside_good : (at : IsActor s k a Nothing) (what : StepKind) → IsGoodAnswer s k (record { actor = a; doing = Nothing }) (turn_outside (actors_of s) a what (seen_by k s.disk))
-  outside_good at (kind.Commit changes moment) = if_good s k (record { actor = a; doing = Nothing }) (may_commit (actors_of s) a changes) (staying (seen_by k s.disk) (Bracket (task.Commit changes moment) [])) (λ may. record { ground = ground_commits s g k a changes moment at may; memory = λ mem. memory_begins s g mem k a (task.Commit changes moment) at (s.places ++ []); settles = λ n. refl })
+  outside_good at (kind.Commit changes moment) =
+      if_good s k (record { actor = a; doing = Nothing }) (may_commit (actors_of s) a changes)
+      (staying (seen_by k s.disk) (Bracket (task.Commit changes moment) []))
+      (λ may. record { ground = ground_commits s g k a changes moment at may; memory = λ mem. memory_begins s g mem k a (task.Commit changes moment) at (s.places ++ []); settles = λ n. refl })
   outside_good at kind.Recover = record { ground = ground_recovers s g k a at; memory = λ mem. memory_begins s g mem k a task.Recover at (s.places ++ []); settles = λ n. refl }
   outside_good at kind.Call = tt
   outside_good at kind.Refuse = tt

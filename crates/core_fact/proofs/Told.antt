@@ -54,7 +54,8 @@ told_after old d (event.Load m seen.Memory) n own agrees at was = was
 told_after old d (event.Stage m c failed) n own agrees at was = told_put old d.files m n (Some c) c (λ some. refl) was
 told_after old d (event.Publish from to true failed) n own agrees at was = λ some. elim (same_or_not n from) [
   | inl p ↦
-      let gone : with_at (with_at d.files from None) to (d.files from) n ≡ None = ap (with_at (with_at d.files from None) to (d.files from)) p.0 ∙ put_there (with_at d.files from None) to from (d.files from) at.0 ∙ put_here d.files from None in
+      let gone : with_at (with_at d.files from None) to (d.files from) n ≡ None =
+      ap (with_at (with_at d.files from None) to (d.files from)) p.0 ∙ put_there (with_at d.files from None) to from (d.files from) at.0 ∙ put_here d.files from None in
       none_some (sym (ap is_some gone) ∙ some)
   | inr p ↦
       let is : with_at (with_at d.files from None) to (d.files from) n ≡ d.files n = put_there (with_at d.files from None) to n (d.files from) at.1 ∙ put_there d.files from n None p.0 in
@@ -63,7 +64,8 @@ told_after old d (event.Publish from to true failed) n own agrees at was = λ so
 told_after old d (event.Publish from to false failed) n own agrees at was = was
 told_after old d (event.Extend m at tail failed) n own agrees free was = λ some. elim (same_or_not n m) [
   | inl p ↦
-      let is : with_at d.files m (extended (d.files m) at tail) n ≡ extended (d.files m) at tail = ap (with_at d.files m (extended (d.files m) at tail)) p.0 ∙ put_here d.files m (extended (d.files m) at tail) in
+      let is : with_at d.files m (extended (d.files m) at tail) n ≡ extended (d.files m) at tail =
+      ap (with_at d.files m (extended (d.files m) at tail)) p.0 ∙ put_here d.files m (extended (d.files m) at tail) in
       ap (sight_at old m (extended_sight (old m) at tail)) p.0 ∙ put_here old m (extended_sight (old m) at tail)
       ∙ told_extended (old m) (d.files m) at tail (subst (λ (z : List ℕ). IsTold old d.files z) p.0 was) (sym (ap is_some is) ∙ some) ∙ ap Some (sym is)
   | inr p ↦

@@ -73,7 +73,8 @@ right_at P rights n q v h stays = elim (same_or_not q n) [
 -- an own event leaves the right of another
 pub others_right : (d : Disk) (e : Event) (q : List ℕ) → is_foreign e ≡ false → Agrees d e → d.rights q ≡ Some Other → (after d e).rights q ≡ Some Other
 others_right d (event.Seize n true failed) q own agrees h =
-    right_at (λ r. r ≡ Some Other) d.rights n q (Some Own) h (λ e. let open_so : is_open (d.rights n) ≡ true = allowed (is_open (d.rights n)) true failed refl agrees in absurd (let shut : is_open (d.rights n) ≡ false = ap is_open e in cc))
+    right_at (λ r. r ≡ Some Other) d.rights n q (Some Own) h
+    (λ e. let open_so : is_open (d.rights n) ≡ true = allowed (is_open (d.rights n)) true failed refl agrees in absurd (let shut : is_open (d.rights n) ≡ false = ap is_open e in cc))
 others_right d (event.Seize n false failed) q own agrees h = h
 others_right d (event.Release n) q own agrees h = right_at (λ r. r ≡ Some Other) d.rights n q (without_own (d.rights n)) h (λ e. ap without_own e)
 others_right d (event.Publish from to true failed) q own agrees h = h

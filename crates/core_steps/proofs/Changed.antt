@@ -60,7 +60,8 @@ pub job_token : (a : Actor) (t : Task) → (job_of a t).token ≡ a.token
 job_token a (task.Commit changes moment) = refl
 job_token a task.Recover = refl
 
-module _ (s : CoreState) (g : Ground s) (k : ℕ) (a : Actor) (old : Doing) (at : IsActor s k a old) (now : CoreDisk) (c : IsChanged s k now) (new : Doing) (proper : IsProper s k a now new) (places : List Passed) where
+module _ (s : CoreState) (g : Ground s) (k : ℕ) (a : Actor) (old : Doing) (at : IsActor s k a old) (now : CoreDisk) (c : IsChanged s k now)
+    (new : Doing) (proper : IsProper s k a now new) (places : List Passed) where
   which : (i : ℕ) (b : Actor) (x : Doing) → IsActor (then_state s k a now new places) i b x → ((i ≡ k) × (b ≡ a) × (x ≡ new)) ⊎ ((i ≢ k) × IsActor s i b x)
   which i b x h = elim (member_then s.members k i (record { actor = a; doing = old }) (record { actor = a; doing = new }) (record { actor = b; doing = x }) at h) [
     | inl w ↦ inl (w.0, ap (λ (m : Member). m.actor) w.1, ap (λ (m : Member). m.doing) w.1)

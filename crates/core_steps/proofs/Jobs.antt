@@ -52,7 +52,8 @@ module _ (base : List (List ℕ)) where
   unfolding first_refusal_each first_refusal
   refusal-same [] files = refl
   refusal-same (c ∷ cs) files =
-      ap (λ (n : List ℕ). or_else (refusal_of n (outcome_on files (change_of (with_base base c)) (base_of (with_base base c)))) (first_refusal_each (map (with_base base) cs) (after_one files (with_base base c)))) (file-same c)
+      ap (λ (n : List ℕ). or_else (refusal_of n (outcome_on files (change_of (with_base base c)) (base_of (with_base base c))))
+      (first_refusal_each (map (with_base base) cs) (after_one files (with_base base c)))) (file-same c)
       ∙ ap (λ o. or_else (refusal_of (name_of c) o) (first_refusal_each (map (with_base base) cs) (after_one files (with_base base c)))) (outcome-same files c)
       ∙ ap (λ (f : Files). or_else (refusal_of (name_of c) (outcome_on files c base)) (first_refusal_each (map (with_base base) cs) f)) (after-same files c)
       ∙ ap (or_else (refusal_of (name_of c) (outcome_on files c base))) (refusal-same cs (after files c base))
@@ -60,7 +61,8 @@ module _ (base : List (List ℕ)) where
   edit-same : (cs : List Change) (n : List ℕ) → edit_of (map (with_base base) cs) n ≡ edit_for cs base n
   edit-same cs n =
       ap (λ (f : Option (List ℕ) → Outcome). record { name = n; by = f })
-      (same_at (λ seen. ap (λ (zs : List Change). outcome_for (only_adds zs n) seen (apply_each (map (with_base base) cs) (λ m. seen) n)) (plain-same cs) ∙ ap (λ (f : Files). outcome_for (only_adds cs n) seen (f n)) (apply-same cs (λ m. seen))))
+      (same_at (λ seen. ap (λ (zs : List Change). outcome_for (only_adds zs n) seen (apply_each (map (with_base base) cs) (λ m. seen) n))
+      (plain-same cs) ∙ ap (λ (f : Files). outcome_for (only_adds cs n) seen (f n)) (apply-same cs (λ m. seen))))
 
   edits-same : (cs : List Change) → edits_of_all (map (with_base base) cs) ≡ edits_for cs base
   edits-same cs =
@@ -70,5 +72,19 @@ module _ (base : List (List ℕ)) where
   pub job-same : (actor : List ℕ) (token : ℕ) (time : ℤ) (cs : List Change)
       → job_of (record { name = actor; token = token }) (Commit (map (with_base base) cs) time) ≡ timed_for actor token time cs base
   job-same actor token time cs =
-      ap (λ (es : List Edit). record { actor = actor; token = token; time = Some time; edits = Some es; refusal = λ files. option_map cause_of (first_refusal_each (map (with_base base) cs) files) }) (edits-same cs)
-      ∙ ap (λ (f : Files → Option ChangeRefusal). record { actor = actor; token = token; time = Some time; edits = Some (edits_for cs base); refusal = λ files. option_map cause_of (f files) }) (same_at (refusal-same cs))
+      ap (λ (es : List Edit). record {
+        actor = actor;
+        token = token;
+        time = Some time;
+        edits = Some es;
+        refusal =
+            λ files. option_map cause_of (first_refusal_each (map (with_base base) cs) files);
+      }) (edits-same cs)
+      ∙ ap (λ (f : Files → Option ChangeRefusal). record {
+        actor = actor;
+        token = token;
+        time = Some time;
+        edits = Some (edits_for cs base);
+        refusal =
+            λ files. option_map cause_of (f files);
+      }) (same_at (refusal-same cs))

@@ -94,7 +94,8 @@ module _ (a : Actor) (t : Task) where
               past ++ Shown (event.Load n seen.Failed) ∷ [],
               (n, ap (next (job_of a t)) here ∙ loads, e_is, inr (ap may_want here ∙ w.0, refl)),
               record {
-                state = state_shown a t past (event.Load n seen.Failed) ∙ ap (λ (z : State). on_time (after_reply (job_of a t) z (reply (event.Load n seen.Failed)))) here ∙ ap on_time (sym (told ∙ w.1));
+                state = state_shown a t past (event.Load n seen.Failed)
+                    ∙ ap (λ (z : State). on_time (after_reply (job_of a t) z (reply (event.Load n seen.Failed)))) here ∙ ap on_time (sym (told ∙ w.1));
                 closing = λ h. absurd (both (has_wanted past) (sym (wanted_shown past (event.Load n seen.Failed)) ∙ h) unwanted);
               },
             )
@@ -109,7 +110,8 @@ module _ (a : Actor) (t : Task) where
   -- an event and the steps after it
   abbrev EndsWith : List Past → Disk → Event → List Event → Ending → Type 0
   EndsWith past d e es end = (last : List Past)
-      × OrOnceWanted a t past (λ now. (IsStepOf a t now d e × AreSteps a t (now ++ Shown e ∷ []) (after d e) es last) ⊎ ((later : List Past) × IsShortLoad a t now e later × AreSteps a t later d es last))
+      × OrOnceWanted a t past (λ now. (IsStepOf a t now d e × AreSteps a t (now ++ Shown e ∷ []) (after d e) es last)
+      ⊎ ((later : List Past) × IsShortLoad a t now e later × AreSteps a t later d es last))
       × (state_of a t last ≡ Ended end)
 
   abbrev One : List Past → Disk → Event → List Event → List Past → Type 0

@@ -60,7 +60,8 @@ module _ (f : Files) (n : List ℕ) where
   placed_none : (actors : List (List ℕ)) (a : List ℕ) → Quiet actors a → puts (standing_in f a) f n ≡ false → placed_by actors f n ≡ f n
   placed_none [] a quiet h = refl
   placed_none (b ∷ bs) a quiet h =
-      let no : puts (standing_in f b) f n ≡ false = elim (same_or_not b a) [ inl p ↦ subst (λ (z : List ℕ). puts (standing_in f z) f n ≡ false) (sym p.0) h | inr p ↦ (or_false _ _ (quiet b (inl refl) p.0)).1 ] in
+      let no : puts (standing_in f b) f n ≡ false =
+      elim (same_or_not b a) [ inl p ↦ subst (λ (z : List ℕ). puts (standing_in f z) f n ≡ false) (sym p.0) h | inr p ↦ (or_false _ _ (quiet b (inl refl) p.0)).1 ] in
       rw no (placed_none bs a (λ c m. quiet c (inr m)) h)
 
   placed_is : (actors : List (List ℕ)) (a : List ℕ) → Quiet actors a → Mem a actors → puts (standing_in f a) f n ≡ true → placed_by actors f n ≡ placed (standing_in f a) f n
@@ -120,7 +121,12 @@ module _ (b : List ℕ) (f g : Files) (stays : Stays b f g) where
     where
       go : (h : Bool) → hides b (standing_in f b) n ≡ h → (if h then None else placed (standing_in f b) g n) ≡ (if h then None else placed (standing_in f b) f n)
       go true e = refl
-      go false e = let p : puts (standing_in f b) f n ≡ true = elim (or_cases (hides b (standing_in f b) n) (puts (standing_in f b) f n) says_so) [ inl y ↦ absurd (both (hides b (standing_in f b) n) y e) | inr y ↦ y ] in placed_stays (standing_in f b) n refl p (stays.file_stays n p)
+      go false e = let p : puts (standing_in f b) f n ≡ true =
+          elim (or_cases (hides b (standing_in f b) n) (puts (standing_in f b) f n) says_so) [
+            | inl y ↦ absurd
+                (both (hides b (standing_in f b) n) y e)
+            | inr y ↦ y
+          ] in placed_stays (standing_in f b) n refl p (stays.file_stays n p)
 
 -- whether an actor but one says something of a name
 abbrev other_says : List (List ℕ) → List ℕ → Files → List ℕ → Bool
@@ -129,7 +135,13 @@ other_says actors a f n = list_any (λ b. not (bytes_eq b a) && says b f n) acto
 found_other : (actors : List (List ℕ)) (a : List ℕ) (f : Files) (n : List ℕ) → other_says actors a f n ≡ true → (b : List ℕ) × Mem b actors × (b ≢ a) × (says b f n ≡ true)
 found_other [] a f n h = absurd (cc)
 found_other (b ∷ bs) a f n h = elim (or_cases (not (bytes_eq b a) && says b f n) (other_says bs a f n) h) [
-  | inl y ↦ let p = and_parts (not (bytes_eq b a)) (says b f n) y in (b, inl refl, (λ e. let w : bytes_eq b a ≡ true = subst (λ (z : List ℕ). bytes_eq b z ≡ true) e (same_refl b) in let v : not (bytes_eq b a) ≡ true = p.0 in let u : not true ≡ true = subst (λ (z : Bool). not z ≡ true) w v in absurd (cc)), p.1)
+  | inl y ↦ let p = and_parts (not (bytes_eq b a)) (says b f n) y in (
+    b,
+    inl refl,
+    (λ e. let w : bytes_eq b a ≡ true = subst (λ (z : List ℕ). bytes_eq b z ≡ true) e (same_refl b) in
+        let v : not (bytes_eq b a) ≡ true = p.0 in let u : not true ≡ true = subst (λ (z : Bool). not z ≡ true) w v in absurd (cc)),
+    p.1,
+  )
   | inr y ↦ let w = found_other bs a f n y in (w.0, inr w.1, w.2, w.3)
 ]
 

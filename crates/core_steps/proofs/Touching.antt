@@ -82,7 +82,8 @@ module _ (j : Job) (d : Disk) where
 
   placed_file : IsSound j.actor d → (r : Record) (x : Item) (xs : List Item) (ls : List (List ℕ)) (th : Then) → PartPlaced j.actor r (x ∷ xs) ls th d
       → is_some (d.files (staged_name r.token x.name)) ≡ true → IsOwnName j.actor d x.name
-  placed_file sound r x xs ls th k stands = file r x.name (held r _ ls k.closing) (k.within.each x.name (inl refl)) (sound.locked r x.name k.closing.stands k.go (k.within.each x.name (inl refl)) stands)
+  placed_file sound r x xs ls th k stands =
+      file r x.name (held r _ ls k.closing) (k.within.each x.name (inl refl)) (sound.locked r x.name k.closing.stands k.go (k.within.each x.name (inl refl)) stands)
 
   own_name : (e : Edit) → Mem e (edits_of j) → Mem e.name (names_of (prepare_of j))
   own_name e m = subst (λ (z : List (List ℕ)). Mem e.name z) (sym (names-prepare j)) (names_Mem (edits_of j) e m)
@@ -108,8 +109,10 @@ module _ (j : Job) (d : Disk) where
   own_touches sound Publishing _ publishes agrees k = λ e. (the_new k.0.clean.right, the_record k.0.clean.right)
   own_touches sound (Locking ls x left) _ locks agrees k = (prepare_of j, held (prepare_of j) [] ls k.0.closing, own_name x (k.1.within x (inl refl)), refl)
   own_touches sound (Loading made x left) _ loads agrees k = tt
-  own_touches sound (Staging ns made x left) _ stages agrees k = staged (prepare_of j) x.edit.name (held (prepare_of j) ns (all_of j) k.0.closing) (own_name x.edit (k.1.each x (k.3.each x (inl refl))).0)
-  own_touches sound (Staging ns made x left) _ stage_fails agrees k = staged (prepare_of j) x.edit.name (held (prepare_of j) ns (all_of j) k.0.closing) (own_name x.edit (k.1.each x (k.3.each x (inl refl))).0)
+  own_touches sound (Staging ns made x left) _ stages agrees k =
+      staged (prepare_of j) x.edit.name (held (prepare_of j) ns (all_of j) k.0.closing) (own_name x.edit (k.1.each x (k.3.each x (inl refl))).0)
+  own_touches sound (Staging ns made x left) _ stage_fails agrees k =
+      staged (prepare_of j) x.edit.name (held (prepare_of j) ns (all_of j) k.0.closing) (own_name x.edit (k.1.each x (k.3.each x (inl refl))).0)
   own_touches sound (Deciding made) _ stages agrees k = the_new k.0.closing.right
   own_touches sound (Deciding made) _ stage_fails agrees k = the_new k.0.closing.right
   own_touches sound (Committing made) _ publishes agrees k = λ e. (the_new k.0.closing.right, the_record k.0.closing.right)

@@ -47,10 +47,18 @@ fresh_of a (task.Commit changes moment) d f = f
 fresh_of a task.Recover d f = f
 
 -- what is known of a member at a state is what its doing then asks for
-module _ (s : CoreState) (k : ℕ) (a : Actor) (now : CoreDisk) (t : Task) (past : List Past) (job : IsJob (job_of a t)) (allowed : (changes : List CoreChange) (moment : ℤ) → t ≡ task.Commit changes moment → may_commit (actors_of s) a changes ≡ true) where
+module _ (s : CoreState) (k : ℕ) (a : Actor) (now : CoreDisk) (t : Task) (past : List Past) (job : IsJob (job_of a t))
+    (allowed : (changes : List CoreChange) (moment : ℤ) → t ≡ task.Commit changes moment → may_commit (actors_of s) a changes ≡ true) where
   goes_on : (st : State) → state_of a t past ≡ st → is_over st ≡ false → Knows (job_of a t) st (seen_by k now)
       → ((r : Record) → standing_in now.files a.name ≡ Some r → r.token ≡ a.token → now.holders (right_name a.name) ≡ Some k) → GoesOn s k a now t past
-  goes_on st is going known right = record { job = job; allowed = allowed; not_over = ap is_over is ∙ going; knows = subst (λ (z : State). Knows (job_of a t) z (seen_by k now)) (sym is) known; right = right }
+  goes_on st is going known right = record {
+    job = job;
+    allowed = allowed;
+    not_over = ap is_over is ∙ going;
+    knows =
+        subst (λ (z : State). Knows (job_of a t) z (seen_by k now)) (sym is) known;
+    right = right;
+  }
 
   pub proper_at : (st : State) → state_of a t past ≡ st → Knows (job_of a t) st (seen_by k now)
       → (is_over st ≡ false → (r : Record) → standing_in now.files a.name ≡ Some r → r.token ≡ a.token → now.holders (right_name a.name) ≡ Some k) → IsProper s k a now (doing_at t past st)

@@ -1,6 +1,6 @@
 //! Deliveries over a host in memory. Standard input has the cases, each with what is wanted of it below a line `want`:
-//! its status, what became of the files, and what its stops leave. For each the program prints `case TITLE`, and how the
-//! delivery differs if it does.
+//! its status, what became of the files, and what its stops leave. The program prints the title
+//! of each whose delivery differs, and how; and last how many cases there were.
 //!
 //! The lines of a case are those of `case_blocks`, and these:
 //!

@@ -1,19 +1,27 @@
 // What becomes of a draft that is done, or that is given up with its body kept.
-ghost use Rattle.std.specs.Prelude.{◌≡◌, ◌++◌, List, ℕ, Option, Some, Ok, None, IfOk};
+//
+//     Dating -> Recording -> Sending -> Telling
+//        \          |           |          ^
+//         +---------+-----> Keeping        |
+//                               v          |
+//     GivingUp ------------> Burying ------+
+// A stage says which answer is waited for; what follows it is one word of specs/Sending, and specs/Ending says which.
+ghost use Rattle.std.specs.Prelude.{◌≡◌, ◌++◌, ◌∷◌, ◌<◌, [], ℕ, None, IfOk};
 ghost use Rattle.host_port.specs.Ran.{Ran};
 ghost use Rattle.mail_dates.specs.Clock.{IsPrintable};
-ghost use Rattle.folder_change.specs.Changes.{name_of};
-ghost use Rattle.session_play.specs.Play.{Play, Ask, Say, Go, Goes};
+ghost use Rattle.session_play.specs.Play.{Goes};
 ghost use Rattle.session_play.specs.Steps.{refused};
-ghost use Rattle.command_desk.specs.Answers.{OrFault, Means};
+ghost use Rattle.command_desk.specs.Answers.{Means};
 ghost use Rattle.send_rules.specs.Addressing.{addressees};
 ghost use Rattle.send_rules.specs.Lines.{names_refused, sender_ended};
 ghost use Rattle.send_rules.specs.Recording.{dead, recorded};
-ghost use Rattle.draft_sending.specs.Sending.{addressing, after_record, after_sender, buried, burying, dead_reply, done, ended_draft, ended_with, given_up, letter_of, lost, lost_now, not_run, posting, quit_draft, recording, saved_one, sending, text_of, unsent, unsent_by};
-ghost use Rattle.session_state.specs.declared.status.Status.{Status};
-ghost use Rattle.session_state.specs.States.{IsState, KeepsButDraft, KeepsButOutcome, with_outcome, without_draft};
+ghost use Rattle.session_state.specs.declared.state.SessionState.{SessionState};
+ghost use Rattle.session_state.specs.States.{IsState, KeepsButDraft, KeepsButOutcome, with_outcome};
 ghost use Rattle.session_state.specs.Answers.{after_asks, in_play, next_of, LineCaused, EndsByAsk, EndsByLine};
+ghost use Rattle.draft_sending.specs.Sending.{addressing, after_record, after_sender, buried, ended_draft, letter_of, lost, not_run, posting, quit_draft, recording, sending, text_of, unsent};
+ghost use Rattle.draft_sending.specs.Ending.{begun, most, IsDated, LeadsTo};
 
+use activities::{Activity, Answer, Call, Turn, drive};
 use draft_text::{Draft, mbox_text, message_text};
 use folder_change::{Change, change_name};
 use folder_commands::receipt;
@@ -22,21 +30,52 @@ use mail_dates::Moment;
 use mail_text::{Items, Memory, Text};
 use read_commands::Refusal;
 use send_rules::{
-    Recipients, addressed, addressees, dead, names_refused, recorded, sender_ended, sender_not_run,
+    Recipients, addressees, dead, names_refused, recorded, sender_ended, sender_not_run,
     too_many_recipients,
 };
-use sender_port::{SendError, send};
-use session_play::now;
-use session_state::{
-    Asked, Flow, Outcome, RunError, SessionState, commit, go_on, not_sent, say, say_text,
-};
+use sender_port::SendError;
+use session_state::{Asked, Flow, Outcome, RunError, SessionState, not_sent};
 use std::alloc::Global;
+use std::mem;
 
 /// A draft, and the moment at which it was done.
 #[derive(Drop)]
 pub(crate) struct Letter {
     pub draft: Draft,
     pub moment: Moment,
+}
+
+/// What was asked for last.
+#[derive(Clone, Copy)]
+pub(crate) enum Stage {
+    /// The moment, of a draft that is done.
+    Dating,
+    /// The moment, of one that is given up.
+    GivingUp,
+    /// The record.
+    Recording,
+    /// The sender.
+    Sending,
+    /// To print what stands in the way; then the text is kept.
+    Keeping,
+    /// The dead letter.
+    Burying,
+    /// To print the last line.
+    Telling,
+}
+
+/// The end of a draft.
+#[derive(Drop)]
+pub(crate) struct Ending {
+    pub stage: Stage,
+    /// The draft; its moment counts once it is known.
+    pub letter: Letter,
+    /// The file that it is recorded in, if it is one of its own.
+    pub file: Option<Text>,
+    /// Whom it is sent to, until it is.
+    pub names: Items<Text>,
+    /// The file of its dead letter.
+    pub dead: Text,
 }
 
 // The text of a letter in a mailbox, from the user.
@@ -48,185 +87,6 @@ fn text_of(alloc: Global, state: &SessionState, letter: &Letter) -> Result<Text,
     mbox_text(alloc, &letter.draft, user, letter.moment)
 }
 
-// Prints that a dead letter was put into the file of this name.
-fn say_dead<H: Host>(
-    alloc: Global,
-    state: &SessionState,
-    host: &mut H,
-    name: &[u8],
-) -> Result<(), RunError>
-    ensures ran { Ran H.world host.old host.new
-        (λ es. Goes (refused {R = Status} state.now (dead_reply name.now)) es
-        (in_play (λ u. Go state.now) result)) }
-    ensures cause { LineCaused (H.world.counts host.old) (H.world.counts host.new) result }
-{
-    let line = receipt(alloc, name, b"Dead", 1)?;
-    say_text(state, host, &line)
-}
-
-// What follows the commit of a dead letter to this file.
-fn buried<H: Host>(
-    alloc: Global,
-    state: &mut SessionState,
-    host: &mut H,
-    name: &[u8],
-    asked: Asked,
-) -> Result<Flow, RunError>
-    requires { EndsByAsk asked }
-    ensures ran { Ran H.world host.old host.new
-        (λ es. Goes (buried state.old name.now (after_asks state.old asked)) es
-        (in_play (next_of state.new) result)) }
-    ensures keeps { KeepsButOutcome state.old state.new }
-    ensures done { IfOk result EndsByLine }
-    ensures cause { LineCaused (H.world.counts host.old) (H.world.counts host.new) result }
-{
-    match asked {
-        Asked::On | Asked::Over => go_on(say_dead(alloc, state, host, name)),
-        Asked::Refused { line } => {
-            state.outcome = Outcome::Refused;
-            go_on(say_text(state, host, &line))
-        }
-        Asked::Ended(status) => Ok(Flow::End(status)),
-    }
-}
-
-// Commits one change.
-fn save_one<H: Host>(
-    alloc: Global,
-    state: &SessionState,
-    host: &mut H,
-    change: Change,
-) -> Result<Asked, RunError>
-    requires { IsState state.now }
-    ensures ran { Ran H.world host.old host.new
-        (λ es. Goes (saved_one state.now change) es (in_play (after_asks state.now) result)) }
-    ensures end { IfOk result EndsByAsk }
-    ensures cause { LineCaused (H.world.counts host.old) (H.world.counts host.new) result }
-{
-    let mut changes = Items::new(alloc);
-    match changes.push(change) {
-        Ok(()) => commit(alloc, state, host, changes),
-        Err(_) => Err(RunError::Memory),
-    }
-}
-
-// Commits a dead letter, if there is one.
-fn bury<H: Host>(
-    alloc: Global,
-    state: &mut SessionState,
-    host: &mut H,
-    change: Change,
-) -> Result<Flow, RunError>
-    requires { IsState state.old }
-    ensures ran { Ran H.world host.old host.new
-        (λ es. Goes (burying state.old (Some change)) es (in_play (next_of state.new) result)) }
-    ensures keeps { KeepsButOutcome state.old state.new }
-    ensures done { IfOk result EndsByLine }
-    ensures cause { LineCaused (H.world.counts host.old) (H.world.counts host.new) result }
-{
-    let name = Text::copy(alloc, change_name(&change))?;
-    match save_one(alloc, state, host, change) {
-        Ok(asked) => buried(alloc, state, host, name.bytes(), asked),
-        Err(error) => Err(error),
-    }
-}
-
-// The dead letter of a draft, if one is kept.
-fn dead_of(alloc: Global, state: &SessionState, letter: &Letter) -> Result<Option<Change>, Memory>
-    requires { IsPrintable letter.now.moment }
-    ensures { IfOk result (λ change. change ≡ dead state.now.desk (text_of state.now letter.now)) }
-{
-    let text = text_of(alloc, state, letter)?;
-    dead(alloc, &state.desk, text.bytes())
-}
-
-// Puts the text of a draft to the dead letters.
-fn lose<H: Host>(
-    alloc: Global,
-    state: &mut SessionState,
-    host: &mut H,
-    letter: &Letter,
-) -> Result<Flow, RunError>
-    requires state { IsState state.old }
-    requires moment { IsPrintable letter.now.moment }
-    ensures ran { Ran H.world host.old host.new
-        (λ es. Goes (lost state.old letter.now) es (in_play (next_of state.new) result)) }
-    ensures keeps { KeepsButOutcome state.old state.new }
-    ensures done { IfOk result EndsByLine }
-    ensures cause { LineCaused (H.world.counts host.old) (H.world.counts host.new) result }
-{
-    match dead_of(alloc, state, letter)? {
-        Some(change) => bury(alloc, state, host, change),
-        None => Ok(Flow::Go),
-    }
-}
-
-// Prints why a draft isn't sent, and puts its text to the dead letters.
-fn keep<H: Host>(
-    alloc: Global,
-    state: &mut SessionState,
-    host: &mut H,
-    letter: &Letter,
-    line: &[u8],
-) -> Result<Flow, RunError>
-    requires state { IsState state.old }
-    requires moment { IsPrintable letter.now.moment }
-    ensures ran { Ran H.world host.old host.new
-        (λ es. Goes (unsent state.old letter.now line.now) es (in_play (next_of state.new) result)) }
-    ensures keeps { KeepsButOutcome state.old state.new }
-    ensures done { IfOk result EndsByLine }
-    ensures cause { LineCaused (H.world.counts host.old) (H.world.counts host.new) result }
-{
-    match say(host, line) {
-        Ok(()) => lose(alloc, state, host, letter),
-        Err(error) => Err(error),
-    }
-}
-
-// Keeps a draft that wasn't sent; `status` is the sender's, if it ran.
-fn keep_unsent<H: Host>(
-    alloc: Global,
-    state: &mut SessionState,
-    host: &mut H,
-    letter: &Letter,
-    status: Option<i32>,
-    line: &[u8],
-) -> Result<Flow, RunError>
-    requires state { IsState state.old }
-    requires moment { IsPrintable letter.now.moment }
-    ensures ran { Ran H.world host.old host.new
-        (λ es. Goes (unsent (unsent_by status state.old) letter.now line.now) es
-        (in_play (next_of state.new) result)) }
-    ensures keeps { KeepsButOutcome state.old state.new }
-    ensures done { IfOk result EndsByLine }
-    ensures cause { LineCaused (H.world.counts host.old) (H.world.counts host.new) result }
-{
-    state.outcome = not_sent(status, state.outcome);
-    keep(alloc, state, host, letter, line)
-}
-
-// Keeps a draft that could not be recorded, with what became of it.
-fn keep_unrecorded<H: Host>(
-    alloc: Global,
-    state: &mut SessionState,
-    host: &mut H,
-    letter: &Letter,
-    outcome: Outcome,
-    line: &[u8],
-) -> Result<Flow, RunError>
-    requires state { IsState state.old }
-    requires moment { IsPrintable letter.now.moment }
-    ensures ran { Ran H.world host.old host.new
-        (λ es. Goes (unsent (with_outcome state.old outcome) letter.now line.now) es
-        (in_play (next_of state.new) result)) }
-    ensures keeps { KeepsButOutcome state.old state.new }
-    ensures done { IfOk result EndsByLine }
-    ensures cause { LineCaused (H.world.counts host.old) (H.world.counts host.new) result }
-{
-    state.outcome = outcome;
-    keep(alloc, state, host, letter, line)
-}
-
 // The sender's output, and the line of its status.
 fn ended_line(alloc: Global, status: i32, output: Text) -> Result<Text, Memory>
     ensures { IfOk result (λ line. line ≡ output ++ sender_ended status) }
@@ -236,282 +96,274 @@ fn ended_line(alloc: Global, status: i32, output: Text) -> Result<Text, Memory>
     Ok(line)
 }
 
-// Prints what the sender wrote and its status, and puts the text to the dead letters.
-fn keep_refused<H: Host>(
-    alloc: Global,
-    state: &mut SessionState,
-    host: &mut H,
-    letter: &Letter,
-    status: i32,
-    output: Text,
-) -> Result<Flow, RunError>
-    requires state { IsState state.old }
-    requires moment { IsPrintable letter.now.moment }
-    ensures ran { Ran H.world host.old host.new
-        (λ es. Goes (ended_with state.old letter.now status output) es (in_play (next_of state.new) result)) }
-    ensures keeps { KeepsButOutcome state.old state.new }
-    ensures done { IfOk result EndsByLine }
-    ensures cause { LineCaused (H.world.counts host.old) (H.world.counts host.new) result }
+// One change alone.
+fn one(alloc: Global, change: Change) -> Result<Items<Change>, Memory>
+    ensures { IfOk result (λ changes. changes ≡ change ∷ []) }
 {
-    let line = ended_line(alloc, status, output)?;
-    keep_unsent(alloc, state, host, letter, Some(status), line.bytes())
+    let mut changes = Items::new(alloc);
+    changes.push(change)?;
+    Ok(changes)
 }
 
-// Prints that the sender could not be run, and puts the text to the dead letters.
-fn keep_not_run<H: Host>(
-    alloc: Global,
-    state: &mut SessionState,
-    host: &mut H,
-    letter: &Letter,
-) -> Result<Flow, RunError>
-    requires state { IsState state.old }
-    requires moment { IsPrintable letter.now.moment }
-    ensures ran { Ran H.world host.old host.new
-        (λ es. Goes (not_run state.old letter.now) es (in_play (next_of state.new) result)) }
-    ensures keeps { KeepsButOutcome state.old state.new }
-    ensures done { IfOk result EndsByLine }
-    ensures cause { LineCaused (H.world.counts host.old) (H.world.counts host.new) result }
-{
-    keep_unsent(alloc, state, host, letter, None, sender_not_run())
-}
-
-// Gives the message to the sender.
-fn deliver<H: Host>(
-    alloc: Global,
-    state: &mut SessionState,
-    host: &mut H,
-    letter: &Letter,
-    names: &[Text],
-) -> Result<Flow, RunError>
-    requires state { IsState state.old }
-    requires moment { IsPrintable letter.now.moment }
-    requires names { names_refused names.now ≡ None }
-    ensures ran { Ran H.world host.old host.new
-        (λ es. Goes (sending state.old letter.now names.now) es (in_play (next_of state.new) result)) }
-    ensures keeps { KeepsButOutcome state.old state.new }
-    ensures done { IfOk result EndsByLine }
-    ensures cause { LineCaused (H.world.counts host.old) (H.world.counts host.new) result }
-{
-    let message = message_text(alloc, &letter.draft, letter.moment)?;
-    match send(alloc, &state.desk.vars, names, message.bytes(), host) {
-        Ok(output) => go_on(say_text(state, host, &output)),
-        Err(SendError::Refused { status, output }) => {
-            keep_refused(alloc, state, host, letter, status, output)
-        }
-        Err(SendError::Child) => keep_not_run(alloc, state, host, letter),
-        Err(SendError::NoRecipients) => keep_not_run(alloc, state, host, letter),
-        Err(SendError::NotAnAddress { .. }) => keep_not_run(alloc, state, host, letter),
-        Err(SendError::Memory) => Err(RunError::Memory),
-    }
-}
-
-// What follows the commit of a record: the message is sent, unless the record is refused or the run ends.
-fn after_record<H: Host>(
-    alloc: Global,
-    state: &mut SessionState,
-    host: &mut H,
-    letter: &Letter,
-    names: &[Text],
-    asked: Asked,
-) -> Result<Flow, RunError>
-    requires state { IsState state.old }
-    requires moment { IsPrintable letter.now.moment }
-    requires names { names_refused names.now ≡ None }
-    requires end { EndsByAsk asked }
-    ensures ran { Ran H.world host.old host.new
-        (λ es. Goes (after_record state.old letter.now names.now (after_asks state.old asked)) es
-        (in_play (next_of state.new) result)) }
-    ensures keeps { KeepsButOutcome state.old state.new }
-    ensures done { IfOk result EndsByLine }
-    ensures cause { LineCaused (H.world.counts host.old) (H.world.counts host.new) result }
-{
-    match asked {
-        Asked::On | Asked::Over => deliver(alloc, state, host, letter, names),
-        Asked::Refused { line } => {
-            keep_unrecorded(alloc, state, host, letter, Outcome::Refused, line.bytes())
-        }
-        Asked::Ended(status) => Ok(Flow::End(status)),
-    }
-}
-
-// Commits the record of a draft, and then sends it.
-fn record_first<H: Host>(
-    alloc: Global,
-    state: &mut SessionState,
-    host: &mut H,
-    letter: &Letter,
-    names: &[Text],
-    change: Change,
-) -> Result<Flow, RunError>
-    requires state { IsState state.old }
-    requires moment { IsPrintable letter.now.moment }
-    requires names { names_refused names.now ≡ None }
-    ensures ran { Ran H.world host.old host.new
-        (λ es. Goes (recording state.old letter.now names.now (Ok (Some change))) es
-        (in_play (next_of state.new) result)) }
-    ensures keeps { KeepsButOutcome state.old state.new }
-    ensures done { IfOk result EndsByLine }
-    ensures cause { LineCaused (H.world.counts host.old) (H.world.counts host.new) result }
-{
-    match save_one(alloc, state, host, change) {
-        Ok(asked) => after_record(alloc, state, host, letter, names, asked),
-        Err(error) => Err(error),
-    }
-}
-
-// Records a draft where it is to be, and then sends it.
-fn record<H: Host>(
-    alloc: Global,
-    state: &mut SessionState,
-    host: &mut H,
-    letter: &Letter,
-    names: &[Text],
-    change: Result<Option<Change>, Refusal>,
-) -> Result<Flow, RunError>
-    requires state { IsState state.old }
-    requires moment { IsPrintable letter.now.moment }
-    requires names { names_refused names.now ≡ None }
-    ensures ran { (r : OrFault (Option Change)) → Means change r → Ran H.world host.old host.new
-        (λ es. Goes (recording state.old letter.now names.now r) es (in_play (next_of state.new) result)) }
-    ensures keeps { KeepsButOutcome state.old state.new }
-    ensures done { IfOk result EndsByLine }
-    ensures cause { LineCaused (H.world.counts host.old) (H.world.counts host.new) result }
-{
-    match change {
-        Ok(Some(change)) => record_first(alloc, state, host, letter, names, change),
-        Ok(None) => deliver(alloc, state, host, letter, names),
-        Err(Refusal::Fault { line }) => {
-            keep_unrecorded(
-                alloc,
-                state,
-                host,
-                letter,
-                Outcome::Unrecorded,
-                line.bytes(),
-            )
-        }
-        Err(Refusal::Memory) => Err(RunError::Memory),
-    }
-}
-
-// The change that records a draft, if it is to be recorded.
-fn record_of(
-    alloc: Global,
-    state: &SessionState,
-    file: &Option<Text>,
-    letter: &Letter,
-    names: &[Text],
-) -> Result<Option<Change>, Refusal>
-    requires { IsPrintable letter.now.moment }
-    ensures { Means result (recorded state.now.desk (text_of state.now letter.now) state.now.by_recipient file.now names.now) }
-{
-    let text = text_of(alloc, state, letter)?;
-    recorded(
-        alloc,
-        &state.desk,
-        text.bytes(),
-        state.by_recipient,
-        file,
-        names,
-    )
-}
-
-// Records and sends a draft to these names, or prints why that can't be.
-fn post<H: Host>(
-    alloc: Global,
-    state: &mut SessionState,
-    host: &mut H,
-    file: &Option<Text>,
-    letter: &Letter,
-    names: &[Text],
-) -> Result<Flow, RunError>
-    requires state { IsState state.old }
-    requires moment { IsPrintable letter.now.moment }
-    ensures ran { Ran H.world host.old host.new
-        (λ es. Goes (posting state.old file.now letter.now names.now (names_refused names.now)) es
-        (in_play (next_of state.new) result)) }
-    ensures keeps { KeepsButOutcome state.old state.new }
-    ensures done { IfOk result EndsByLine }
-    ensures cause { LineCaused (H.world.counts host.old) (H.world.counts host.new) result }
-{
-    match names_refused(alloc, names)? {
-        Some(line) => keep_unsent(alloc, state, host, letter, None, line.bytes()),
-        None => {
-            let change = record_of(alloc, state, file, letter, names);
-            record(alloc, state, host, letter, names, change)
+impl Ending {
+    // The end of a draft that begins so.
+    fn new(alloc: Global, stage: Stage, draft: Draft, file: Option<Text>) -> Ending
+        ensures { result ≡ begun stage draft file }
+    {
+        let moment = Moment {
+            seconds: 0,
+            offset: 0,
+        };
+        Ending {
+            stage,
+            letter: Letter { draft, moment },
+            file,
+            names: Items::new(alloc),
+            dead: Text::new(alloc),
         }
     }
-}
 
-// Sends a draft to those that its names stand for; one with too many is kept as it was written.
-fn address<H: Host>(
-    alloc: Global,
-    state: &mut SessionState,
-    host: &mut H,
-    file: &Option<Text>,
-    letter: Letter,
-    found: Option<Recipients>,
-) -> Result<Flow, RunError>
-    requires state { IsState state.old }
-    requires moment { IsPrintable letter.moment }
-    ensures ran { Ran H.world host.old host.new
-        (λ es. Goes (addressing state.old file.now letter.draft letter.moment found) es
-        (in_play (next_of state.new) result)) }
-    ensures keeps { KeepsButOutcome state.old state.new }
-    ensures done { IfOk result EndsByLine }
-    ensures cause { LineCaused (H.world.counts host.old) (H.world.counts host.new) result }
-{
-    match found {
-        Some(found) => {
-            let Letter { draft, moment } = letter;
-            let (draft, names) = addressed(draft, found);
-            let letter = Letter { draft, moment };
-            post(alloc, state, host, file, &letter, names.items())
+    // Prints the last line.
+    fn tell(&mut self, line: Text) -> Turn
+        requires { 0 < most self.old }
+        ensures { (s : SessionState) → LeadsTo (most self.old) (refused s line) self.new s result }
+    {
+        self.stage = Stage::Telling;
+        Turn::Ask(Call::Say(line))
+    }
+
+    // Prints why the draft isn't sent, with what became of it, and then keeps its text.
+    fn keep(&mut self, state: &mut SessionState, outcome: Outcome, line: Text) -> Turn
+        requires { IsDated 2 self.old }
+        ensures leads { LeadsTo (most self.old)
+            (unsent (with_outcome state.old outcome) self.old.letter line) self.new state.new result }
+        ensures keeps { KeepsButOutcome state.old state.new }
+    {
+        state.outcome = outcome;
+        self.stage = Stage::Keeping;
+        Turn::Ask(Call::Say(line))
+    }
+
+    // Keeps the text as a dead letter, if one is kept.
+    fn lose(&mut self, alloc: Global, state: &SessionState) -> Result<Turn, Memory>
+        requires { IsDated 1 self.old }
+        ensures { IfOk result (LeadsTo (most self.old) (lost state.now self.old.letter) self.new state.now) }
+    {
+        let text = text_of(alloc, state, &self.letter)?;
+        match dead(alloc, &state.desk, text.bytes())? {
+            Some(change) => {
+                let name = Text::copy(alloc, change_name(&change))?;
+                let changes = one(alloc, change)?;
+                self.dead = name;
+                self.stage = Stage::Burying;
+                Ok(Turn::Ask(Call::Commit(changes)))
+            }
+            None => Ok(Turn::End(Flow::Go)),
         }
-        None => keep_unsent(alloc, state, host, &letter, None, too_many_recipients()),
+    }
+
+    // What follows the commit of the dead letter.
+    fn buried(
+        &mut self,
+        alloc: Global,
+        state: &mut SessionState,
+        asked: Asked,
+    ) -> Result<Turn, Memory>
+        requires rank { 0 < most self.old }
+        requires end { EndsByAsk asked }
+        ensures leads { IfOk result
+            (LeadsTo (most self.old) (buried state.old self.old.dead (after_asks state.old asked)) self.new state.new) }
+        ensures keeps { KeepsButOutcome state.old state.new }
+    {
+        match asked {
+            Asked::On | Asked::Over => {
+                let line = receipt(alloc, self.dead.bytes(), b"Dead", 1)?;
+                Ok(self.tell(line))
+            }
+            Asked::Refused { line } => {
+                state.outcome = Outcome::Refused;
+                Ok(self.tell(line))
+            }
+            Asked::Ended(status) => Ok(Turn::End(Flow::End(status))),
+        }
+    }
+
+    // Gives the message to the sender.
+    fn send(&mut self, alloc: Global, state: &SessionState) -> Result<Turn, Memory>
+        requires dated { IsDated 3 self.old }
+        requires names { names_refused self.old.names ≡ None }
+        ensures { IfOk result (LeadsTo (most self.old) (sending state.now self.old.letter self.old.names) self.new state.now) }
+    {
+        let message = message_text(alloc, &self.letter.draft, self.letter.moment)?;
+        let names = mem::replace(&mut self.names, Items::new(alloc));
+        self.stage = Stage::Sending;
+        Ok(Turn::Ask(Call::Send { names, message }))
+    }
+
+    // The sender could not be run.
+    fn not_run(&mut self, alloc: Global, state: &mut SessionState) -> Result<Turn, Memory>
+        requires { IsDated 2 self.old }
+        ensures leads { IfOk result (LeadsTo (most self.old) (not_run state.old self.old.letter) self.new state.new) }
+        ensures keeps { KeepsButOutcome state.old state.new }
+    {
+        let line = Text::copy(alloc, sender_not_run())?;
+        let outcome = not_sent(None, state.outcome);
+        Ok(self.keep(state, outcome, line))
+    }
+
+    // What follows the sender.
+    fn after_sender(
+        &mut self,
+        alloc: Global,
+        state: &mut SessionState,
+        sent: Result<Text, SendError>,
+    ) -> Result<Turn, Memory>
+        requires { IsDated 2 self.old }
+        ensures leads { IfOk result (LeadsTo (most self.old) (after_sender state.old self.old.letter sent) self.new state.new) }
+        ensures keeps { KeepsButOutcome state.old state.new }
+    {
+        match sent {
+            Ok(output) => Ok(self.tell(output)),
+            Err(SendError::Refused { status, output }) => {
+                let line = ended_line(alloc, status, output)?;
+                let outcome = not_sent(Some(status), state.outcome);
+                Ok(self.keep(state, outcome, line))
+            }
+            Err(SendError::Child) => self.not_run(alloc, state),
+            Err(SendError::NoRecipients) => self.not_run(alloc, state),
+            Err(SendError::NotAnAddress { .. }) => self.not_run(alloc, state),
+            Err(SendError::Memory) => self.not_run(alloc, state),
+        }
+    }
+
+    // What follows the commit of the record: the message is sent, unless that is refused or the run ends.
+    fn after_record(
+        &mut self,
+        alloc: Global,
+        state: &mut SessionState,
+        asked: Asked,
+    ) -> Result<Turn, Memory>
+        requires dated { IsDated 3 self.old }
+        requires names { names_refused self.old.names ≡ None }
+        requires end { EndsByAsk asked }
+        ensures leads { IfOk result (LeadsTo (most self.old)
+            (after_record state.old self.old.letter self.old.names (after_asks state.old asked)) self.new state.new) }
+        ensures keeps { KeepsButOutcome state.old state.new }
+    {
+        match asked {
+            Asked::On | Asked::Over => self.send(alloc, state),
+            Asked::Refused { line } => Ok(self.keep(state, Outcome::Refused, line)),
+            Asked::Ended(status) => Ok(Turn::End(Flow::End(status))),
+        }
+    }
+
+    // The change that records the draft, if it is to be recorded.
+    fn record_of(&self, alloc: Global, state: &SessionState) -> Result<Option<Change>, Refusal>
+        requires { IsPrintable self.now.letter.moment }
+        ensures { Means result
+            (recorded state.now.desk (text_of state.now self.now.letter) state.now.by_recipient self.now.file self.now.names) }
+    {
+        let text = text_of(alloc, state, &self.letter)?;
+        recorded(
+            alloc,
+            &state.desk,
+            text.bytes(),
+            state.by_recipient,
+            &self.file,
+            self.names.items(),
+        )
+    }
+
+    // Records the draft where it is to be, and then sends it, or prints why that can't be.
+    fn post(&mut self, alloc: Global, state: &mut SessionState) -> Result<Turn, Memory>
+        requires { IsDated 4 self.old }
+        ensures leads { IfOk result (LeadsTo (most self.old)
+            (posting state.old self.old.file self.old.letter self.old.names (names_refused self.old.names)) self.new state.new) }
+        ensures keeps { KeepsButOutcome state.old state.new }
+    {
+        if let Some(line) = names_refused(alloc, self.names.items())? {
+            let outcome = not_sent(None, state.outcome);
+            return Ok(self.keep(state, outcome, line));
+        }
+        match self.record_of(alloc, state) {
+            Ok(Some(change)) => {
+                let changes = one(alloc, change)?;
+                self.stage = Stage::Recording;
+                Ok(Turn::Ask(Call::Commit(changes)))
+            }
+            Ok(None) => self.send(alloc, state),
+            Err(Refusal::Fault { line }) => Ok(self.keep(state, Outcome::Unrecorded, line)),
+            Err(Refusal::Memory) => Err(Memory),
+        }
+    }
+
+    // Sends the draft to those that its names stand for; one with too many is kept as it was written.
+    fn address(&mut self, alloc: Global, state: &mut SessionState) -> Result<Turn, Memory>
+        requires { IsDated 4 self.old }
+        ensures leads { IfOk result (LeadsTo (most self.old) (addressing state.old self.old.file self.old.letter.draft
+            self.old.letter.moment (addressees state.old.desk self.old.letter.draft)) self.new state.new) }
+        ensures keeps { KeepsButOutcome state.old state.new }
+    {
+        match addressees(alloc, &state.desk, &self.letter.draft)? {
+            Some(Recipients { to, cc, all }) => {
+                self.letter.draft.to = to;
+                self.letter.draft.cc = cc;
+                self.names = all;
+                self.post(alloc, state)
+            }
+            None => {
+                let line = Text::copy(alloc, too_many_recipients())?;
+                let outcome = not_sent(None, state.outcome);
+                Ok(self.keep(state, outcome, line))
+            }
+        }
     }
 }
 
-// Sends a draft that is done at this moment.
-fn finish_at<H: Host>(
-    alloc: Global,
-    state: &mut SessionState,
-    host: &mut H,
-    file: &Option<Text>,
-    letter: Letter,
-) -> Result<Flow, RunError>
-    requires state { IsState state.old }
-    requires moment { IsPrintable letter.moment }
-    ensures ran { Ran H.world host.old host.new
-        (λ es. Goes (addressing state.old file.now letter.draft letter.moment (addressees state.old.desk letter.draft)) es
-        (in_play (next_of state.new) result)) }
-    ensures keeps { KeepsButOutcome state.old state.new }
-    ensures done { IfOk result EndsByLine }
-    ensures cause { LineCaused (H.world.counts host.old) (H.world.counts host.new) result }
-{
-    let found = addressees(alloc, &state.desk, &letter.draft)?;
-    address(alloc, state, host, file, letter, found)
-}
+impl Activity for Ending {
+    ghost use Rattle.std.specs.Prelude.{refl};
+    ghost use Rattle.session_state.specs.Answers.{EndsByLine};
+    ghost use Rattle.session_state.specs.States.{KeepsButOutcome};
+    ghost use Rattle.draft_sending.specs.Ending.{follows, most, Takes, keeps-joined, keeps-valid};
 
-// Sends a draft that is done.
-fn finish<H: Host>(
-    alloc: Global,
-    state: &mut SessionState,
-    host: &mut H,
-    file: &Option<Text>,
-    draft: Draft,
-) -> Result<Flow, RunError>
-    requires { IsState state.old }
-    ensures ran { Ran H.world host.old host.new
-        (λ es. Goes (done state.old file.now draft) es (in_play (next_of state.new) result)) }
-    ensures keeps { KeepsButOutcome state.old state.new }
-    ensures done { IfOk result EndsByLine }
-    ensures cause { LineCaused (H.world.counts host.old) (H.world.counts host.new) result }
-{
-    match now(alloc, host, state.desk.places.tz.bytes()) {
-        Ok(moment) => finish_at(alloc, state, host, file, Letter { draft, moment }),
-        Err(_) => Err(RunError::Memory),
+    ghost follows = { follows };
+
+    ghost takes = { λ e s a. Takes e a };
+
+    ghost most = { most };
+
+    ghost ends = { EndsByLine };
+
+    ghost changes = { KeepsButOutcome };
+
+    fn take(
+        &mut self,
+        alloc: Global,
+        state: &mut SessionState,
+        answer: Answer,
+    ) -> Result<Turn, Memory> {
+        match self.stage {
+            Stage::Dating => {
+                self.letter.moment = answer.time();
+                self.address(alloc, state)
+            }
+            Stage::GivingUp => {
+                self.letter.moment = answer.time();
+                self.lose(alloc, state)
+            }
+            Stage::Recording => self.after_record(alloc, state, answer.asked()),
+            Stage::Sending => self.after_sender(alloc, state, answer.sent()),
+            Stage::Keeping => self.lose(alloc, state),
+            Stage::Burying => self.buried(alloc, state, answer.asked()),
+            Stage::Telling => Ok(Turn::End(Flow::Go)),
+        }
     }
+
+    ghost stays = { λ s. refl };
+
+    ghost joins = { keeps-joined };
+
+    ghost valid = { keeps-valid };
 }
 
 /// The draft that is open is done: it is recorded where it is to be, and sent, or its text goes to the dead letters.
@@ -532,54 +384,14 @@ pub fn end_draft<H: Host>(
     match state.draft.take() {
         Some(compose) => {
             let file = state.file.take();
-            finish(alloc, state, host, &file, compose.into_draft())
+            let mut ending = Ending::new(alloc, Stage::Dating, compose.into_draft(), file);
+            drive(alloc, state, host, &mut ending, Turn::Ask(Call::Now))
         }
         None => Ok(Flow::Go),
     }
 }
 
-// Puts the text of a draft to the dead letters, as of this moment.
-fn lose_now<H: Host>(
-    alloc: Global,
-    state: &mut SessionState,
-    host: &mut H,
-    draft: Draft,
-) -> Result<Flow, RunError>
-    requires { IsState state.old }
-    ensures ran { Ran H.world host.old host.new
-        (λ es. Goes (lost_now state.old draft) es (in_play (next_of state.new) result)) }
-    ensures keeps { KeepsButOutcome state.old state.new }
-    ensures done { IfOk result EndsByLine }
-    ensures cause { LineCaused (H.world.counts host.old) (H.world.counts host.new) result }
-{
-    match now(alloc, host, state.desk.places.tz.bytes()) {
-        Ok(moment) => lose(alloc, state, host, &Letter { draft, moment }),
-        Err(_) => Err(RunError::Memory),
-    }
-}
-
-// A draft is given up: one with a body goes to the dead letters.
-fn give_up<H: Host>(
-    alloc: Global,
-    state: &mut SessionState,
-    host: &mut H,
-    draft: Draft,
-) -> Result<Flow, RunError>
-    requires { IsState state.old }
-    ensures ran { Ran H.world host.old host.new
-        (λ es. Goes (given_up state.old draft) es (in_play (next_of state.new) result)) }
-    ensures keeps { KeepsButOutcome state.old state.new }
-    ensures done { IfOk result EndsByLine }
-    ensures cause { LineCaused (H.world.counts host.old) (H.world.counts host.new) result }
-{
-    if draft.body.bytes().is_empty() {
-        Ok(Flow::Go)
-    } else {
-        lose_now(alloc, state, host, draft)
-    }
-}
-
-/// The draft that is open is given up.
+/// The draft that is open is given up: one with a body goes to the dead letters.
 pub fn quit_draft<H: Host>(
     alloc: Global,
     state: &mut SessionState,
@@ -597,7 +409,12 @@ pub fn quit_draft<H: Host>(
     match state.draft.take() {
         Some(compose) => {
             state.file = None;
-            give_up(alloc, state, host, compose.into_draft())
+            let draft = compose.into_draft();
+            if draft.body.bytes().is_empty() {
+                return Ok(Flow::Go);
+            }
+            let mut ending = Ending::new(alloc, Stage::GivingUp, draft, None);
+            drive(alloc, state, host, &mut ending, Turn::Ask(Call::Now))
         }
         None => Ok(Flow::Go),
     }

@@ -219,7 +219,8 @@ pub record ReadsAs (t line : List ℕ) (fs : List Field) (part : Option (List �
   pub entries : entries_of t ≡ map field fs
   pub body : body_of t ≡ part
 
-pub reads-as : (t line : List ℕ) (fs : List Field) (body : Option (List ℕ)) → t ≡ (line ++ after_feeds (map field_bytes fs)) ++ body_part body → HasNoFeed line → AllByRecursion StandsAlone fs → ReadsAs t line fs body
+pub reads-as : (t line : List ℕ) (fs : List Field) (body : Option (List ℕ)) → t ≡ (line ++ after_feeds (map field_bytes fs)) ++ body_part body
+    → HasNoFeed line → AllByRecursion StandsAlone fs → ReadsAs t line fs body
 reads-as t line fs body is flat all =
     let ls = map field_bytes fs in
     let parts = text-parts t line ls body (is ∙ append_assoc line (after_feeds ls) (body_part body)) flat (lines-are fs all) in

@@ -42,7 +42,8 @@ first-is value other found (inr is) =
     ap (spec_or other) is.2
     ∙ ap (λ (list : List Address). unwrap_or (slice_get (map (λ (a : Address). a.spec) list) 0) other) (sym (addresses-fault value is.0 is.1))
 
-first-of-is : (field : Option Field) (other : List ℕ) (found : Option Address) → IsFirstOf field found → spec_or other found ≡ unwrap_or (slice_get (map (λ (a : Address). a.spec) (addresses_of (value_or_empty field))) 0) other
+first-of-is : (field : Option Field) (other : List ℕ) (found : Option Address) → IsFirstOf field found
+    → spec_or other found ≡ unwrap_or (slice_get (map (λ (a : Address). a.spec) (addresses_of (value_or_empty field))) 0) other
 first-of-is None other found is =
     ap (spec_or other) is
     ∙ ap (λ (list : List Address). unwrap_or (slice_get (map (λ (a : Address). a.spec) list) 0) other) (sym (addresses-read [] [] no-bytes))

@@ -31,7 +31,8 @@ use Rattle.draft_text.proofs.FieldLemmas.{StandsAlone, plain-apart, draft-alone,
 
 -- ---- the message that is sent
 
-pub sent-reads : (draft : Draft) (line : List ℕ) (m : Moment) → IsPrintable m → HasFlatParts draft → HasNoFeed line → HasDraft (with_feed line ++ message_text draft m) line (draft_fields draft m) (fed draft.body)
+pub sent-reads : (draft : Draft) (line : List ℕ) (m : Moment) → IsPrintable m → HasFlatParts draft → HasNoFeed line
+    → HasDraft (with_feed line ++ message_text draft m) line (draft_fields draft m) (fed draft.body)
 unfolding message_text
 sent-reads draft line m range flat apart =
     let fs = draft_fields draft m in
@@ -72,10 +73,12 @@ stored-is draft user m range flat apart =
     ∙ trimmed-whole (opening_line user m ++ after_feeds (map field_bytes fs)) (quoted draft.body)
     (lines-end (opening_line user m) (map field_bytes fs) opening (lines-are fs (draft-alone draft m range flat)))
 
-pub stored-reads : (draft : Draft) (user : List ℕ) (m : Moment) → IsPrintable m → HasFlatParts draft → HasNoFeed user → HasDraft (mbox_text draft user m) (opening_line user m) (draft_fields draft m) (trimmed (quoted draft.body))
+pub stored-reads : (draft : Draft) (user : List ℕ) (m : Moment) → IsPrintable m → HasFlatParts draft → HasNoFeed user
+    → HasDraft (mbox_text draft user m) (opening_line user m) (draft_fields draft m) (trimmed (quoted draft.body))
 stored-reads draft user m range flat apart =
     let body = trimmed (quoted draft.body) in
-    let reads = reads-as (mbox_text draft user m) (opening_line user m) (draft_fields draft m) (if_any body) (stored-is draft user m range flat apart) (opening-apart user m range apart) (draft-alone draft m range flat) in
+    let reads = reads-as (mbox_text draft user m) (opening_line user m) (draft_fields draft m) (if_any body) (stored-is draft user m range flat apart)
+    (opening-apart user m range apart) (draft-alone draft m range flat) in
     record { from_line = reads.from_line; entries = reads.entries; body = ap (λ (o : Option (List ℕ)). unwrap_or o []) reads.body ∙ if_any-or body }
 
 -- ---- it has no break

@@ -68,7 +68,8 @@ walked-more base now left later k m t h next e same = record {
       ∙ sym (append_assoc (take k base) (m ∷ []) later) ∙ ap (λ (l : List (List ℕ)). l ++ later) (sym e);
 }
 
-pub walked-other : (base now left later : List (List ℕ)) (k : ℕ) (m t : List ℕ) → IsWalked base now left k → k < length base → left ≡ t ∷ later → take (k + 1) base ≡ take k base ++ m ∷ [] → (t ≡ m → ⊥)
+pub walked-other : (base now left later : List (List ℕ)) (k : ℕ) (m t : List ℕ) → IsWalked base now left k → k < length base → left ≡ t ∷ later
+    → take (k + 1) base ≡ take k base ++ m ∷ [] → (t ≡ m → ⊥)
     → DiffersAt base now k
 walked-other base now left later k m t h lt next e ne =
     let count : length (take k base) ≡ k = omega (arith, length-take k base) in

@@ -20,7 +20,8 @@ use Rattle.folder_commands.proofs.MakingLemmas.{has-list}
 use Rattle.folder_commands.specs.Growing.{changed_from, opened_unless, grown}
 
 -- the texts that stand in place of the base would be written: the bytes begin with it
-pub same-from : (name b : List ℕ) (list base : List (List ℕ)) (keep : Bool) (file : Option (List ℕ)) → outcome_of (Some b) (Rewrite name list keep) base ≡ Ok file → None ≡ changed_from base (list_of b)
+pub same-from : (name b : List ℕ) (list base : List (List ℕ)) (keep : Bool) (file : Option (List ℕ))
+    → outcome_of (Some b) (Rewrite name list keep) base ≡ Ok file → None ≡ changed_from base (list_of b)
 unfolding outcome_of rewrite_of rewritten
 same-from name b list base keep file is = go (list_of b) is
   where
@@ -69,7 +70,8 @@ joined bytes front tail begins is =
 pub more-than : (name base bytes new : List ℕ) → grown name base bytes ≡ Ok new → texts_of new ≡ texts_of base ++ drop (length (texts_of base)) (texts_of new)
 more-than name base bytes new is = go (list_of bytes) refl is
   where
-    go : (l : Option (List (List ℕ))) → list_of bytes ≡ l → opened_unless (changed_from (texts_of base) l) name bytes ≡ Ok new → texts_of new ≡ texts_of base ++ drop (length (texts_of base)) (texts_of new)
+    go : (l : Option (List (List ℕ))) → list_of bytes ≡ l → opened_unless (changed_from (texts_of base) l) name bytes ≡ Ok new
+        → texts_of new ≡ texts_of base ++ drop (length (texts_of base)) (texts_of new)
     go None found h = absurd (cc h)
     go (Some now) found h = pick (starts_with bytes_eq now (texts_of base)) _ refl h
       where
@@ -83,7 +85,8 @@ more-than name base bytes new is = go (list_of bytes) refl is
         opens true line e = absurd (cc e)
         opens false line e = cc e
 
-        pick : (b : Bool) (at : ℕ) → starts_with bytes_eq now (texts_of base) ≡ b → opened_unless (if b then None else Some at) name bytes ≡ Ok new → texts_of new ≡ texts_of base ++ drop (length (texts_of base)) (texts_of new)
+        pick : (b : Bool) (at : ℕ) → starts_with bytes_eq now (texts_of base) ≡ b → opened_unless (if b then None else Some at) name bytes ≡ Ok new
+            → texts_of new ≡ texts_of base ++ drop (length (texts_of base)) (texts_of new)
         pick true at begins e =
             let whole : bytes ≡ new = opens (nat_lt message_limit (length now)) _ (sym (ap (listed name bytes) found) ∙ e) in
             let all : now ≡ texts_of new = sym texts ∙ ap texts_of whole in

@@ -16,7 +16,8 @@ both : {A B : Type 0} (a : OrFault A) (b : A → OrFault B) (make : A → B → 
 both a b make x y f is_a is_b is_f =
     ap (λ r. next r (λ x. next (b x) (λ y. Ok (make x y)))) is_a ∙ ap (λ r. next r (λ y. Ok (make x y))) is_b ∙ ap Ok (sym is_f)
 
-pub into-named : (act : Act) (desk : Desk) (list : List (List ℕ)) (word : List ℕ) (ns : List ℕ) (name : List ℕ) (f : Filing) → chosen Live desk list ≡ Ok ns → expanded desk word ≡ Ok name → f ≡ adding act desk ns name
+pub into-named : (act : Act) (desk : Desk) (list : List (List ℕ)) (word : List ℕ) (ns : List ℕ) (name : List ℕ) (f : Filing)
+    → chosen Live desk list ≡ Ok ns → expanded desk word ≡ Ok name → f ≡ adding act desk ns name
     → into_named act desk list word ≡ Ok f
 into-named act desk list word ns name f is_chosen is_name is_f = both (chosen Live desk list) (λ ns. expanded desk word) (λ ns name. adding act desk ns name) ns name f is_chosen is_name is_f
 

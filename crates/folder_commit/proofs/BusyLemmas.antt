@@ -83,9 +83,11 @@ module _ (actor name : List ℕ) where
     lock-met names (n ∷ left) [] h = absurd (cc)
     lock-met names (n ∷ left) (event.Lock m t true failed ∷ es) h = met-more name (event.Lock m t true failed) es (lock-met names left es h)
     lock-met names (n ∷ left) (event.Lock m t false failed ∷ es) h = inr (t, failed, inl (ap (λ (x : List ℕ). event.Lock x t false failed) (same-busy m name h)))
-    lock-met names (n ∷ left) (event.Publish from to false failed ∷ es) h = go (bytes_eq from (new_name actor)) h (λ l. met-more name (event.Publish from to false failed) es (lock-met names (n ∷ left) es l))
+    lock-met names (n ∷ left) (event.Publish from to false failed ∷ es) h =
+        go (bytes_eq from (new_name actor)) h (λ l. met-more name (event.Publish from to false failed) es (lock-met names (n ∷ left) es l))
       where
-        go : (a : Bool) → IsBusy (if a then Refused NotARecord else by_lock actor why names (n ∷ left) es) → (IsBusy (by_lock actor why names (n ∷ left) es) → Met name (event.Publish from to false failed ∷ es)) → Met name (event.Publish from to false failed ∷ es)
+        go : (a : Bool) → IsBusy (if a then Refused NotARecord else by_lock actor why names (n ∷ left) es)
+            → (IsBusy (by_lock actor why names (n ∷ left) es) → Met name (event.Publish from to false failed ∷ es)) → Met name (event.Publish from to false failed ∷ es)
         go true h later = absurd (cc)
         go false h later = later h
     lock-met names (n ∷ left) (event.Load m (seen.TooLarge k) ∷ es) h = absurd (cc)
@@ -114,7 +116,8 @@ module _ (actor name : List ℕ) where
     right-met names [] h = absurd (cc)
     right-met names (e ∷ es) h = absurd (cc)
 
-module _ (make : Files → Files) (actor : List ℕ) (token : ℕ) (time : ℤ) (c : Change) (cs : List Change) (base : List (List ℕ)) (d : Disk) (es : List Event) (job : IsJob (timed_for actor token time (c ∷ cs) base)) (safe : RunsSafely make (job_for actor token (c ∷ cs) base) d es) where
+module _ (make : Files → Files) (actor : List ℕ) (token : ℕ) (time : ℤ) (c : Change) (cs : List Change) (base : List (List ℕ)) (d : Disk)
+    (es : List Event) (job : IsJob (timed_for actor token time (c ∷ cs) base)) (safe : RunsSafely make (job_for actor token (c ∷ cs) base) d es) where
   abbrev j : Job
   j = timed_for actor token time (c ∷ cs) base
 
@@ -198,7 +201,8 @@ module _ (actor : List ℕ) where
   lock-fine names (n ∷ left) (e ∷ es) h p = lock-fine names (n ∷ left) es (free-more e es h) (made-more e es p)
 
   -- the load of the record
-  record-fine : (names : List (List ℕ)) (s : Seen) (es : List Event) → Free (event.Load (record_name actor) s ∷ es) → Made es → IsFine (by_record actor None names (event.Load (record_name actor) s ∷ es))
+  record-fine : (names : List (List ℕ)) (s : Seen) (es : List Event) → Free (event.Load (record_name actor) s ∷ es) → Made es
+      → IsFine (by_record actor None names (event.Load (record_name actor) s ∷ es))
   record-fine names (seen.Bytes None held) es h p = lock-fine names names es h p
   record-fine names (seen.Bytes (Some bytes) held) es h p = go (record_of bytes) refl
     where
@@ -247,7 +251,8 @@ module _ (j : Job) where
       let w = release-is (right_name j.actor) e (subst (λ (s : State). IsNext (next j s) e) at is) in
       subst (λ (x : Event). IsFine (by_time j.actor None names (x ∷ es))) (sym w) tt
 
-  right-fine : (names : List (List ℕ)) (es : List Event) (last : State) → list_any is_failed es ≡ false → Goes j Seizing es last → Free j.actor es → Made j.actor es → IsFine (by_right j.actor None names es)
+  right-fine : (names : List (List ℕ)) (es : List Event) (last : State) → list_any is_failed es ≡ false → Goes j Seizing es last → Free j.actor es
+      → Made j.actor es → IsFine (by_right j.actor None names es)
   right-fine names [] last f goes h p = tt
   right-fine names (e ∷ es) last f (now, inr at, is, more) h p = absurd (subst (λ (s : State). IsNext (next j s) e) at is)
   right-fine names (e ∷ es) last f (now, inl at, is, more) h p =
@@ -256,7 +261,8 @@ module _ (j : Job) where
       let F : Event → Type 0 = λ x. list_any is_failed (x ∷ es) ≡ false → Free j.actor (x ∷ es) → Goes j (after_reply j Seizing (reply x)) es last → IsFine (by_right j.actor None names (x ∷ es)) in
       subst F (sym w.2) (go w.0 w.1) f h there
     where
-      go : (got failed : Bool) → list_any is_failed (event.Seize (right_name j.actor) got failed ∷ es) ≡ false → Free j.actor (event.Seize (right_name j.actor) got failed ∷ es) → Goes j (after_reply j Seizing (reply (event.Seize (right_name j.actor) got failed))) es last
+      go : (got failed : Bool) → list_any is_failed (event.Seize (right_name j.actor) got failed ∷ es) ≡ false
+          → Free j.actor (event.Seize (right_name j.actor) got failed ∷ es) → Goes j (after_reply j Seizing (reply (event.Seize (right_name j.actor) got failed))) es last
           → IsFine (by_right j.actor None names (event.Seize (right_name j.actor) got failed ∷ es))
       go got true f h goes = absurd (cc)
       go false false f h goes = absurd (cc)
@@ -278,7 +284,8 @@ not-fault : (before now : Counts) (result : Result Unit CommitError) → (Rose b
 not-fault before now (Err (error.Disk passed)) quiet cause = absurd (quiet cause)
 not-fault before now result quiet cause = refl
 
-module _ (make : Files → Files) (actor : List ℕ) (token : ℕ) (time : ℤ) (c : Change) (cs : List Change) (base : List (List ℕ)) (d : Disk) (es : List Event) (job : IsJob (timed_for actor token time (c ∷ cs) base)) (safe : RunsSafely make (job_for actor token (c ∷ cs) base) d es) where
+module _ (make : Files → Files) (actor : List ℕ) (token : ℕ) (time : ℤ) (c : Change) (cs : List Change) (base : List (List ℕ)) (d : Disk)
+    (es : List Event) (job : IsJob (timed_for actor token time (c ∷ cs) base)) (safe : RunsSafely make (job_for actor token (c ∷ cs) base) d es) where
   abbrev commit_job : Job
   commit_job = timed_for actor token time (c ∷ cs) base
 
@@ -299,7 +306,8 @@ module _ (make : Files → Files) (actor : List ℕ) (token : ℕ) (time : ℤ) 
       not e m h = absurd (cc)
 
   -- a commit that nothing hinders is done, or memory was wanting
-  pub completes : (before now : Counts) (result : Result Unit CommitError) → Commits commit_job (own es) result → CommitCause before now result → IsComplete actor (c ∷ cs) base (own es) before now result
+  pub completes : (before now : Counts) (result : Result Unit CommitError) → Commits commit_job (own es) result → CommitCause before now result
+      → IsComplete actor (c ∷ cs) base (own es) before now result
   completes before now result h cause quiet free =
       let fault = not-fault before now result quiet cause in
       let faults = tells-faults commit_job (own es) result h in

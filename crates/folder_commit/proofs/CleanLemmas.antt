@@ -134,7 +134,8 @@ module _ (j : Job) where
   q-erasing r a m d false = (refl, tt)
 
   cleaned : (s : State) (e : Event) → Cleans s → IsNext (next j s) e → Cleaned s e
-  cleaned (Undoing r n ns ls (Answer a)) e c is = let w = erase-is (staged_name r.token n) e is in subst (Cleaned (Undoing r n ns ls (Answer a))) (sym w.2) (q-undoing r n ns ls a (staged_name r.token n) w.0 w.1)
+  cleaned (Undoing r n ns ls (Answer a)) e c is = let w = erase-is (staged_name r.token n) e is in
+      subst (Cleaned (Undoing r n ns ls (Answer a))) (sym w.2) (q-undoing r n ns ls a (staged_name r.token n) w.0 w.1)
   cleaned (Unlocking r n ns (Answer a)) e c is = let w = unlock-is n r.token e is in subst (Cleaned (Unlocking r n ns (Answer a))) (sym w.2) (q-unlocking r n ns a n r.token w.0 w.1)
   cleaned (Erasing r (Answer a)) e c is = let w = erase-is (record_name j.actor) e is in subst (Cleaned (Erasing r (Answer a))) (sym w.2) (q-erasing r a (record_name j.actor) w.0 w.1)
   cleaned (Releasing a) e c is = subst (Cleaned (Releasing a)) (sym (release-is (right_name j.actor) e is)) (refl, tt)
@@ -172,7 +173,8 @@ module _ (j : Job) where
   b-erase r a b m d false = b
 
   behind : (s : State) (e : Event) → BehindLong s → IsNext (next j s) e → Behind s e
-  behind (Undoing r n ns ls (Answer a)) e b is = let w = erase-is (staged_name r.token n) e is in subst (Behind (Undoing r n ns ls (Answer a))) (sym w.2) (b-erase-undoing r n ns ls a b (staged_name r.token n) w.0 w.1)
+  behind (Undoing r n ns ls (Answer a)) e b is = let w = erase-is (staged_name r.token n) e is in
+      subst (Behind (Undoing r n ns ls (Answer a))) (sym w.2) (b-erase-undoing r n ns ls a b (staged_name r.token n) w.0 w.1)
   behind (Unlocking r n ns (Answer a)) e b is = let w = unlock-is n r.token e is in subst (Behind (Unlocking r n ns (Answer a))) (sym w.2) (b-unlock r n ns a b n r.token w.0 w.1)
   behind (Erasing r (Answer a)) e b is = let w = erase-is (record_name j.actor) e is in subst (Behind (Erasing r (Answer a))) (sym w.2) (b-erase r a b (record_name j.actor) w.0 w.1)
   behind (Releasing a) e b is = subst (Behind (Releasing a)) (sym (release-is (right_name j.actor) e is)) b

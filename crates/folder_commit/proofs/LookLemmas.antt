@@ -146,12 +146,15 @@ module _ (j : Job) where
   abbrev Leads : State → Event → List Event → Ending → Type 0
   Leads s e es end = Goes j (after_reply j s (reply e)) es (Ended end)
 
-  committing-looks : (made : List Made) (from to : List ℕ) (done failed : Bool) (es : List Event) (end : Ending) → Leads (Committing made) (event.Publish from to done failed) es end → Looks (Committing made) (event.Publish from to done failed) es
+  committing-looks : (made : List Made) (from to : List ℕ) (done failed : Bool) (es : List Event) (end : Ending)
+      → Leads (Committing made) (event.Publish from to done failed) es end → Looks (Committing made) (event.Publish from to done failed) es
   committing-looks made from to done true es end goes = refl
-  committing-looks made from to done false es end goes = sym (as-looks (after_reply j (Committing made) (reply (event.Publish from to done false))) (committing-bad j made from to done false).1 es end goes)
+  committing-looks made from to done false es end goes =
+      sym (as-looks (after_reply j (Committing made) (reply (event.Publish from to done false))) (committing-bad j made from to done false).1 es end goes)
 
   -- a state where no failed call is followed by a look
-  plain-looks : (s : State) → Clean s → is_bad s ≡ false → faulted s ≡ Releasing (Failed (passed_at s)) → (e : Event) (es : List Event) (end : Ending) → is_bad (after_reply j s (reply e)) ≡ (is_bad s || is_failed e)
+  plain-looks : (s : State) → Clean s → is_bad s ≡ false → faulted s ≡ Releasing (Failed (passed_at s)) → (e : Event) (es : List Event) (end : Ending)
+      → is_bad (after_reply j s (reply e)) ≡ (is_bad s || is_failed e)
       → Leads s e es end → look_failed (e ∷ es) ≡ unknown_from (after_reply j s (reply e)) es
   plain-looks s h b f e es end step goes = elim (cases_Bool (is_failed e)) [
     | inl y ↦
@@ -206,10 +209,12 @@ tells-unknown : (j : Job) (es : List Event) (result : Result Unit CommitError) �
 tells-unknown j es result h = sym (look-told j es Seizing h.end tt h.goes) ∙ unknown-so (all_of j) result h.end h.is_as
 
 -- no event, and an answer that tells of no failed call
-quiet-told : (actor : List ℕ) (c : Change) (cs : List Change) (base : List (List ℕ)) (result : Result Unit CommitError) → is_fault result ≡ false → is_unknown result ≡ false → (length (first_names (c ∷ cs)) ≤ file_limit → ⊥) → IsTold actor (c ∷ cs) base [] result
+quiet-told : (actor : List ℕ) (c : Change) (cs : List Change) (base : List (List ℕ)) (result : Result Unit CommitError) → is_fault result ≡ false
+    → is_unknown result ≡ false → (length (first_names (c ∷ cs)) ≤ file_limit → ⊥) → IsTold actor (c ∷ cs) base [] result
 quiet-told actor c cs base result f u many = (sym f, sym u, λ few. absurd (many few))
 
-pub is-told : (actor : List ℕ) (token : ℕ) (changes : List Change) (base : List (List ℕ)) (es : List Event) (result : Result Unit CommitError) → token < 2 ^ 64 → AreFiles actor changes → IsCommit actor token changes base es result → IsTold actor changes base es result
+pub is-told : (actor : List ℕ) (token : ℕ) (changes : List Change) (base : List (List ℕ)) (es : List Event) (result : Result Unit CommitError)
+    → token < 2 ^ 64 → AreFiles actor changes → IsCommit actor token changes base es result → IsTold actor changes base es result
 is-told actor token [] base es result fits files h =
     let T : List Event → Result Unit CommitError → Type 0 = λ es r. TellsFaults es r × TellsUnknown es r in
     subst (λ (z : List Event). T z result) (sym h.0) (subst (T []) (sym h.1) (refl, refl))

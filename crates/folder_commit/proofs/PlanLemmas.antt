@@ -82,7 +82,8 @@ first-more (d ∷ cs) c = pick (same_or_not (name_of c) (name_of d)) (first-more
 
     other : bytes_eq x y ≡ false → first_names (cs ++ c ∷ []) ≡ added (first_names cs) x → y ∷ without y (first_names (cs ++ c ∷ [])) ≡ added (y ∷ without y (first_names cs)) x
     other ne more =
-        let there : (bytes_eq x y || has (without y (first_names cs)) x) ≡ has (first_names cs) x = ap (λ (b : Bool). b || has (without y (first_names cs)) x) ne ∙ has-without y (first_names cs) x ne in
+        let there : (bytes_eq x y || has (without y (first_names cs)) x) ≡ has (first_names cs) x =
+        ap (λ (b : Bool). b || has (without y (first_names cs)) x) ne ∙ has-without y (first_names cs) x ne in
         ap (λ (l : List (List ℕ)). y ∷ without y l) more
         ∙ go (has (first_names cs) x)
         ∙ sym (ap (λ (b : Bool). if b then y ∷ without y (first_names cs) else y ∷ (without y (first_names cs) ++ x ∷ [])) there)
@@ -91,7 +92,8 @@ first-more (d ∷ cs) c = pick (same_or_not (name_of c) (name_of d)) (first-more
         go true = refl
         go false = ap (λ (l : List (List ℕ)). y ∷ l) (without-end y (first_names cs) x ∙ rw ne refl)
 
-    pick : ((x ≡ y) × (bytes_eq x y ≡ true)) ⊎ ((x ≢ y) × (bytes_eq x y ≡ false)) → first_names (cs ++ c ∷ []) ≡ added (first_names cs) x → y ∷ without y (first_names (cs ++ c ∷ [])) ≡ added (y ∷ without y (first_names cs)) x
+    pick : ((x ≡ y) × (bytes_eq x y ≡ true)) ⊎ ((x ≢ y) × (bytes_eq x y ≡ false)) → first_names (cs ++ c ∷ []) ≡ added (first_names cs) x
+        → y ∷ without y (first_names (cs ++ c ∷ [])) ≡ added (y ∷ without y (first_names cs)) x
     pick (inl p) more = same p.0 p.1 more
     pick (inr p) more = other p.1 more
 
@@ -111,7 +113,8 @@ named-more cs c es is =
     ∙ go (has (first_names cs) (name_of c))
     ∙ ap replaced (sym (first-more cs c))
   where
-    go : (b : Bool) → (if b then replaced (first_names cs) else replaced (first_names cs) ++ entry_for Replace (name_of c) ∷ []) ≡ replaced (if b then first_names cs else first_names cs ++ name_of c ∷ [])
+    go : (b : Bool) → (if b then replaced (first_names cs) else replaced (first_names cs) ++ entry_for Replace (name_of c) ∷ [])
+        ≡ replaced (if b then first_names cs else first_names cs ++ name_of c ∷ [])
     go true = refl
     go false = sym (replaced-end (first_names cs) (name_of c))
 
@@ -196,13 +199,15 @@ some-first [] h = absurd (omega (arith, h))
 some-first (c ∷ cs) h = omega arith
 
 -- a record of such a moment is valid
-pub is-valid-plan : (actor : List ℕ) (phase : Phase) (token : ℕ) (moment : ℤ) (cs : List Change) → fits_moment (Some moment) ≡ true → AreFiles actor cs → 1 ≤ length cs → length (first_names cs) ≤ file_limit → is_valid (record_for phase token (Some moment) (first_names cs)) ≡ true
+pub is-valid-plan : (actor : List ℕ) (phase : Phase) (token : ℕ) (moment : ℤ) (cs : List Change) → fits_moment (Some moment) ≡ true
+    → AreFiles actor cs → 1 ≤ length cs → length (first_names cs) ≤ file_limit → is_valid (record_for phase token (Some moment) (first_names cs)) ≡ true
 is-valid-plan actor phase token moment cs fits files some few =
     let ns = first_names cs in
     let long = length-replaced ns in
     let least = some-first cs some in
     let short : nat_le (length (replaced ns)) file_limit ≡ true = le-leb (length (replaced ns)) file_limit (omega (arith, long, few)) in
-    tests (nat_lt 0 (length (replaced ns))) (nat_le (length (replaced ns)) file_limit) (list_all (λ (e : Entry). is_lawful e.name) (replaced ns)) (are_distinct (replaced ns)) (list_all fits_kind (replaced ns) && (fit_phase phase (replaced ns) && fits_moment (Some moment)))
+    tests (nat_lt 0 (length (replaced ns))) (nat_le (length (replaced ns)) file_limit) (list_all (λ (e : Entry). is_lawful e.name) (replaced ns))
+    (are_distinct (replaced ns)) (list_all fits_kind (replaced ns) && (fit_phase phase (replaced ns) && fits_moment (Some moment)))
     (grind (arith, common_steps)) short (all-lawful actor ns (names-first (Filed actor) cs files)) (are-distinct ns (distinct-first cs)) (fits-all phase (Some moment) ns fits)
 
 -- the names of the plan
@@ -239,7 +244,8 @@ is-plan actor token time cs base =
 pub is-for : (actor : List ℕ) (token : ℕ) (time : ℤ) (cs : List Change) (base : List (List ℕ)) → IsCommitOf (timed_for actor token time cs base) cs base
 is-for actor token time cs base = record { edits_are = refl; refusal_is = λ files. refl }
 
-pub is-safe : (actor : List ℕ) (token : ℕ) (time : ℤ) (cs : List Change) → length actor ≤ actor_limit → has_no_zero actor ≡ true → AreFiles actor cs → 1 ≤ length cs → length (first_names cs) ≤ file_limit → IsSafe (commit_plan actor token time (first_names cs))
+pub is-safe : (actor : List ℕ) (token : ℕ) (time : ℤ) (cs : List Change) → length actor ≤ actor_limit → has_no_zero actor ≡ true → AreFiles actor cs
+    → 1 ≤ length cs → length (first_names cs) ≤ file_limit → IsSafe (commit_plan actor token time (first_names cs))
 is-safe actor token time cs short none files some few =
     let r = record_for Go token (Some (nearest_moment time)) (first_names cs) in
     let valid = is-valid-plan actor Go token (nearest_moment time) cs (nearest-fits time) files some few in
@@ -290,21 +296,25 @@ outcome-extends true (Some old) (Some bytes) at content e = go (nat_le (length o
     small : (n most : ℕ) → n ≤ most → most < 2 ^ 64 → n < 2 ^ 64
     small n most le fits = omega arith
 
-    go : (b : Bool) → nat_le (length old) load_limit ≡ b → (if b then Puts (Extend (length old)) (drop (length old) bytes) else Puts Replace bytes) ≡ Puts (Extend at) content → (reaches at (Some old) ≡ true) × (at < 2 ^ 64)
+    go : (b : Bool) → nat_le (length old) load_limit ≡ b
+        → (if b then Puts (Extend (length old)) (drop (length old) bytes) else Puts Replace bytes) ≡ Puts (Extend at) content → (reaches at (Some old) ≡ true) × (at < 2 ^ 64)
     go true is h =
         let same : length old ≡ at = cc in
         (le-leb at (length old) (omega (arith, same)), subst (λ (n : ℕ). n < 2 ^ 64) same (small (length old) load_limit (leb-true (length old) load_limit is) (lit< tt)))
     go false is h = absurd (cc)
 
-edit-extends : (cs : List Change) (base ns : List (List ℕ)) (e : Edit) → Mem e (map (edit_for cs base) ns) → (seen : Option (List ℕ)) (at : ℕ) (content : List ℕ) → e.by seen ≡ Puts (Extend at) content → (reaches at seen ≡ true) × (at < 2 ^ 64)
+edit-extends : (cs : List Change) (base ns : List (List ℕ)) (e : Edit) → Mem e (map (edit_for cs base) ns)
+    → (seen : Option (List ℕ)) (at : ℕ) (content : List ℕ) → e.by seen ≡ Puts (Extend at) content → (reaches at seen ≡ true) × (at < 2 ^ 64)
 edit-extends cs base [] e m seen at content h = absurd m
 edit-extends cs base (n ∷ ns) e (inl is) seen at content h = outcome-extends (only_adds cs n) seen (apply cs base (λ m. seen) n) at content (ap (λ (x : Edit). x.by seen) (sym is) ∙ h)
 edit-extends cs base (n ∷ ns) e (inr m) seen at content h = edit-extends cs base ns e m seen at content h
 
-pub is-job : (actor : List ℕ) (token : ℕ) (time : ℤ) (cs : List Change) (base : List (List ℕ)) → token < 2 ^ 64 → AreFiles actor cs → 1 ≤ length cs → length (first_names cs) ≤ file_limit → IsJob (timed_for actor token time cs base)
+pub is-job : (actor : List ℕ) (token : ℕ) (time : ℤ) (cs : List Change) (base : List (List ℕ)) → token < 2 ^ 64 → AreFiles actor cs → 1 ≤ length cs
+    → length (first_names cs) ≤ file_limit → IsJob (timed_for actor token time cs base)
 is-job actor token time cs base fits files some few = record {
   token_fits = fits;
-  valid = λ es is. ap (λ (ns : List (List ℕ)). is_valid (record_for Prepare token (Some (nearest_moment time)) ns)) (all-first actor token cs base) ∙ is-valid-plan actor Prepare token (nearest_moment time) cs (nearest-fits time) files some few;
+  valid = λ es is. ap (λ (ns : List (List ℕ)). is_valid (record_for Prepare token (Some (nearest_moment time)) ns)) (all-first actor token cs base)
+      ∙ is-valid-plan actor Prepare token (nearest_moment time) cs (nearest-fits time) files some few;
   plain = λ e m. plain-name actor e.name (edit-file actor cs base (first_names cs) e (names-first (Filed actor) cs files) m);
   extends = λ e m. edit-extends cs base (first_names cs) e m;
 }

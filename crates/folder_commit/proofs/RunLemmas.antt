@@ -57,11 +57,13 @@ no-memory actor token (c ∷ cs) base some = elim (cases_lt file_limit (length (
   | inr few ↦ inr (few, (any_time, not-begun (timed_for actor token any_time (c ∷ cs) base)))
 ]
 
-pub too-many : (actor : List ℕ) (token : ℕ) (cs : List Change) (base : List (List ℕ)) (count : ℕ) → 1 ≤ length cs → file_limit < length (first_names cs) → count ≡ length (first_names cs) → IsCommit actor token cs base [] (Err (error.TooManyNames count))
+pub too-many : (actor : List ℕ) (token : ℕ) (cs : List Change) (base : List (List ℕ)) (count : ℕ) → 1 ≤ length cs
+    → file_limit < length (first_names cs) → count ≡ length (first_names cs) → IsCommit actor token cs base [] (Err (error.TooManyNames count))
 too-many actor token [] base count some many is = absurd (omega (arith, some))
 too-many actor token (c ∷ cs) base count some many is = inl (many, (refl, inl (ap (λ (n : ℕ). Err (error.TooManyNames n)) is)))
 
-pub of-memory : (actor : List ℕ) (token : ℕ) (cs : List Change) (base : List (List ℕ)) (r : Result Unit CommitError) → 1 ≤ length cs → (y : CommitError) × (r ≡ Err y) × (y ≡ error.Memory) → IsCommit actor token cs base [] r
+pub of-memory : (actor : List ℕ) (token : ℕ) (cs : List Change) (base : List (List ℕ)) (r : Result Unit CommitError) → 1 ≤ length cs
+    → (y : CommitError) × (r ≡ Err y) × (y ≡ error.Memory) → IsCommit actor token cs base [] r
 of-memory actor token cs base r some h = subst (λ (z : Result Unit CommitError). IsCommit actor token cs base [] z) (sym (h.1 ∙ ap Err h.2)) (no-memory actor token cs base some)
 
 pub nothing-done : (actor : List ℕ) (token : ℕ) (cs : List Change) (base : List (List ℕ)) → length cs < 1 → IsCommit actor token cs base [] (Ok tt)
@@ -89,12 +91,15 @@ module _ (actor : List ℕ) (token : ℕ) (time : ℤ) (cs : List Change) (base 
       subst (λ (n : List ℕ). Mem n (first_names cs)) (ap (λ (ns : List (List ℕ)). nth ns k) (sym (plan-names (first_names cs)))) (nth-Mem (first_names cs) k (omega (arith, l, long)))
 
   -- the name of the staged file of an entry that was found
-  staged-is : (place : Place) (k : ℕ) → place.found_staged ≡ map (staged_name place.found.token) (names_of place.found) → k < length place.found.entries → nth place.found_staged k ≡ staged_name place.found.token (nth (names_of place.found) k)
+  staged-is : (place : Place) (k : ℕ) → place.found_staged ≡ map (staged_name place.found.token) (names_of place.found)
+      → k < length place.found.entries → nth place.found_staged k ≡ staged_name place.found.token (nth (names_of place.found) k)
   staged-is place k staged l = ap (λ (ns : List (List ℕ)). nth ns k) staged ∙ nth-of (staged_name place.found.token) (names_of place.found) k (omega (arith, l, names-long place.found))
 
-  commits : (place : Place) (e : End) (es : List Event) → place.found_staged ≡ map (staged_name place.found.token) (names_of place.found) → EndFits (length plan.value.entries) (length place.found.entries) e → Driven job place.found es e → Commits job es (answer_of e plan place)
+  commits : (place : Place) (e : End) (es : List Event) → place.found_staged ≡ map (staged_name place.found.token) (names_of place.found)
+      → EndFits (length plan.value.entries) (length place.found.entries) e → Driven job place.found es e → Commits job es (answer_of e plan place)
   commits place end.Done es staged fits d = record { end = jobs.Done; is_as = refl; within = tt; fit = d.fit; goes = d.goes }
-  commits place (end.Busy k) es staged fits d = record { end = Refused (jobs.Busy (nth (all_of job) k)); is_as = ap (λ (ns : List (List ℕ)). Refused (jobs.Busy (nth ns k))) same-names; within = tt; fit = d.fit; goes = d.goes }
+  commits place (end.Busy k) es staged fits d =
+      record { end = Refused (jobs.Busy (nth (all_of job) k)); is_as = ap (λ (ns : List (List ℕ)). Refused (jobs.Busy (nth ns k))) same-names; within = tt; fit = d.fit; goes = d.goes }
   commits place end.NotARecord es staged fits d = record { end = Refused jobs.NotARecord; is_as = refl; within = tt; fit = d.fit; goes = d.goes }
   commits place (end.RecordTooLarge n) es staged fits d = record { end = Refused (jobs.TooLarge (record_name actor) n); is_as = refl; within = tt; fit = d.fit; goes = d.goes }
   commits place (end.StagedTooLarge k n) es staged fits d = record {
@@ -104,8 +109,10 @@ module _ (actor : List ℕ) (token : ℕ) (time : ℤ) (cs : List Change) (base 
     fit = d.fit;
     goes = d.goes;
   }
-  commits place (end.TooLarge k n) es staged fits d = record { end = Refused (jobs.TooLarge (nth (all_of job) k) n); is_as = ap (λ (ns : List (List ℕ)). Refused (jobs.TooLarge (nth ns k) n)) same-names; within = tt; fit = d.fit; goes = d.goes }
-  commits place (end.Changed k m) es staged fits d = record { end = Refused (jobs.Changed (nth (all_of job) k) m); is_as = ap (λ (ns : List (List ℕ)). Refused (jobs.Changed (nth ns k) m)) same-names; within = tt; fit = d.fit; goes = d.goes }
+  commits place (end.TooLarge k n) es staged fits d =
+      record { end = Refused (jobs.TooLarge (nth (all_of job) k) n); is_as = ap (λ (ns : List (List ℕ)). Refused (jobs.TooLarge (nth ns k) n)) same-names; within = tt; fit = d.fit; goes = d.goes }
+  commits place (end.Changed k m) es staged fits d =
+      record { end = Refused (jobs.Changed (nth (all_of job) k) m); is_as = ap (λ (ns : List (List ℕ)). Refused (jobs.Changed (nth ns k) m)) same-names; within = tt; fit = d.fit; goes = d.goes }
   commits place (end.Failed passed.Before) es staged fits d = record { end = Failed jobs.Before; is_as = refl; within = tt; fit = d.fit; goes = d.goes }
   commits place (end.Failed passed.After) es staged fits d = record { end = Failed jobs.After; is_as = refl; within = tt; fit = d.fit; goes = d.goes }
   commits place (end.Failed passed.Unknown) es staged fits d = record { end = Failed jobs.Unknown; is_as = refl; within = tt; fit = d.fit; goes = d.goes }
@@ -123,7 +130,8 @@ module _ (actor : List ℕ) (token : ℕ) (time : ℤ) (cs : List Change) (base 
   caused place end.NoMemory old now c = tt
   caused place e old now c = tt
 
-  named : (place : Place) (e : End) → place.found_staged ≡ map (staged_name place.found.token) (names_of place.found) → EndFits (length plan.value.entries) (length place.found.entries) e → AreNamed actor (first_names cs) (answer_of e plan place)
+  named : (place : Place) (e : End) → place.found_staged ≡ map (staged_name place.found.token) (names_of place.found)
+      → EndFits (length plan.value.entries) (length place.found.entries) e → AreNamed actor (first_names cs) (answer_of e plan place)
   named place end.Done staged f = tt
   named place (end.Busy k) staged f = inr (among k f)
   named place (end.RecordTooLarge n) staged f = inr (inl refl)
@@ -141,23 +149,30 @@ pub is-commit : (actor : List ℕ) (token : ℕ) (time : ℤ) (cs : List Change)
 is-commit actor token time [] base place e es some few staged fits d = absurd (omega (arith, some))
 is-commit actor token time (c ∷ cs) base place e es some few staged fits d = inr (few, (time, commits actor token time (c ∷ cs) base place e es staged fits d))
 
-pub is-caused : (actor : List ℕ) (token : ℕ) (time : ℤ) (cs : List Change) (place : Place) (e : End) (old now : Counts) → EndCaused old.disks now.disks e → CommitCause old now (answer_of e (commit_plan actor token time (first_names cs)) place)
+pub is-caused : (actor : List ℕ) (token : ℕ) (time : ℤ) (cs : List Change) (place : Place) (e : End) (old now : Counts)
+    → EndCaused old.disks now.disks e → CommitCause old now (answer_of e (commit_plan actor token time (first_names cs)) place)
 is-caused actor token time cs place e old now c = caused actor token time cs [] place e old now c
 
-pub is-named : (actor : List ℕ) (token : ℕ) (time : ℤ) (cs : List Change) (place : Place) (e : End) → 1 ≤ length cs → place.found_staged ≡ map (staged_name place.found.token) (names_of place.found) → EndFits (length (commit_plan actor token time (first_names cs)).value.entries) (length place.found.entries) e → IsNamed actor cs (answer_of e (commit_plan actor token time (first_names cs)) place)
+pub is-named : (actor : List ℕ) (token : ℕ) (time : ℤ) (cs : List Change) (place : Place) (e : End) → 1 ≤ length cs
+    → place.found_staged ≡ map (staged_name place.found.token) (names_of place.found)
+    → EndFits (length (commit_plan actor token time (first_names cs)).value.entries) (length place.found.entries) e
+    → IsNamed actor cs (answer_of e (commit_plan actor token time (first_names cs)) place)
 is-named actor token time [] place e some staged f = absurd (omega (arith, some))
 is-named actor token time (c ∷ cs) place e some staged f = named actor token time (c ∷ cs) [] place e staged f
 
 -- a commit that didn't come to be driven: it ended so, and no load of it met too many bytes
-pub ended-early : (actor : List ℕ) (token : ℕ) (time : ℤ) (cs : List Change) (base : List (List ℕ)) (es : List Event) (end : Ending) (result : Result Unit CommitError) → 1 ≤ length cs → length (first_names cs) ≤ file_limit
-    → AnswersAs (all_of (timed_for actor token time cs base)) result end → AnswersWithin es result → LoadsFit es → Goes (timed_for actor token time cs base) Seizing es (Ended end) → IsCommit actor token cs base es result
+pub ended-early : (actor : List ℕ) (token : ℕ) (time : ℤ) (cs : List Change) (base : List (List ℕ)) (es : List Event) (end : Ending)
+    (result : Result Unit CommitError) → 1 ≤ length cs → length (first_names cs) ≤ file_limit
+    → AnswersAs (all_of (timed_for actor token time cs base)) result end → AnswersWithin es result → LoadsFit es
+    → Goes (timed_for actor token time cs base) Seizing es (Ended end) → IsCommit actor token cs base es result
 ended-early actor token time [] base es end result some few so within fit goes = absurd (omega (arith, some))
 ended-early actor token time (c ∷ cs) base es end result some few so within fit goes = inr (few, (time, record { end = end; is_as = so; within = within; fit = fit; goes = goes }))
 
 -- another had the right
 pub kept-out : (actor : List ℕ) (token : ℕ) (cs : List Change) (base : List (List ℕ)) (name : List ℕ) (es : List Event) → 1 ≤ length cs → length (first_names cs) ≤ file_limit → name ≡ right_name actor
     → Begins (timed_for actor token any_time cs base) begun.Busy es → IsCommit actor token cs base es (Err (error.Busy name))
-kept-out actor token cs base name es some few is b = ended-early actor token any_time cs base es (Refused (jobs.Busy (right_name actor))) (Err (error.Busy name)) some few (ap (λ (n : List ℕ). Refused (jobs.Busy n)) (sym is)) tt b.fit b.goes
+kept-out actor token cs base name es some few is b =
+    ended-early actor token any_time cs base es (Refused (jobs.Busy (right_name actor))) (Err (error.Busy name)) some few (ap (λ (n : List ℕ). Refused (jobs.Busy n)) (sym is)) tt b.fit b.goes
 
 -- its seizure failed
 pub not-seized : (actor : List ℕ) (token : ℕ) (cs : List Change) (base : List (List ℕ)) (es : List Event) → 1 ≤ length cs → length (first_names cs) ≤ file_limit
@@ -186,8 +201,10 @@ memory-named actor [] r some h = absurd (omega (arith, some))
 memory-named actor (c ∷ cs) r some h = subst (IsNamed actor (c ∷ cs)) (sym (h.1 ∙ ap Err h.2)) tt
 
 -- a plan that couldn't be made
-pub no-plan : (actor : List ℕ) (token : ℕ) (cs : List Change) (base : List (List ℕ)) (why : CommitError) (r : Result Unit CommitError) → 1 ≤ length cs → Plans actor token cs (Err why) → r ≡ Err why → IsCommit actor token cs base [] r
-no-plan actor token cs base (error.TooManyNames count) r some h is = subst (λ (z : Result Unit CommitError). IsCommit actor token cs base [] z) (sym is) (too-many actor token cs base count some h.0 h.1)
+pub no-plan : (actor : List ℕ) (token : ℕ) (cs : List Change) (base : List (List ℕ)) (why : CommitError) (r : Result Unit CommitError) → 1 ≤ length cs
+    → Plans actor token cs (Err why) → r ≡ Err why → IsCommit actor token cs base [] r
+no-plan actor token cs base (error.TooManyNames count) r some h is =
+    subst (λ (z : Result Unit CommitError). IsCommit actor token cs base [] z) (sym is) (too-many actor token cs base count some h.0 h.1)
 no-plan actor token cs base error.Memory r some h is = subst (λ (z : Result Unit CommitError). IsCommit actor token cs base [] z) (sym is) (no-memory actor token cs base some)
 no-plan actor token cs base why r some h is = absurd h
 

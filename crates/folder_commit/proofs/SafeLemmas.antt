@@ -81,7 +81,8 @@ untimed make j time d es safe = record {
   only_calls = safe.only_calls;
 }
 
-safely : (actor : List ℕ) (token : ℕ) (time : ℤ) (c : Change) (cs : List Change) (base : List (List ℕ)) (d : Disk) (es : List Event) (result : Result Unit CommitError) → IsJob (timed_for actor token time (c ∷ cs) base)
+safely : (actor : List ℕ) (token : ℕ) (time : ℤ) (c : Change) (cs : List Change) (base : List (List ℕ)) (d : Disk) (es : List Event)
+    (result : Result Unit CommitError) → IsJob (timed_for actor token time (c ∷ cs) base)
     → MayCommit actor token d es → Honest d es → Commits (timed_for actor token time (c ∷ cs) base) (own es) result → CommitsSafely (job_for actor token (c ∷ cs) base) (c ∷ cs) base d es result
 safely actor token time c cs base d es result job may honest h =
     let j = timed_for actor token time (c ∷ cs) base in
@@ -108,9 +109,11 @@ is-safe : (actor : List ℕ) (token : ℕ) (changes : List Change) (base : List 
     → MayCommit actor token d es → Honest d es → IsCommit actor token changes base (own es) result → IsSafe actor token changes base d es result
 is-safe actor token [] base d es result fits files may honest h = tt
 is-safe actor token (c ∷ cs) base d es result fits files may honest (inl many) = λ few. absurd (omega (arith, few, many.0))
-is-safe actor token (c ∷ cs) base d es result fits files may honest (inr h) = λ few. safely actor token h.1.0 c cs base d es result (is-job actor token h.1.0 (c ∷ cs) base fits files (omega arith) few) may honest h.1.1
+is-safe actor token (c ∷ cs) base d es result fits files may honest (inr h) =
+    λ few. safely actor token h.1.0 c cs base d es result (is-job actor token h.1.0 (c ∷ cs) base fits files (omega arith) few) may honest h.1.1
 
-pub is-complete : (actor : List ℕ) (token : ℕ) (changes : List Change) (base : List (List ℕ)) (d : Disk) (es : List Event) (before now : Counts) (result : Result Unit CommitError) → token < 2 ^ 64 → AreFiles actor changes
+pub is-complete : (actor : List ℕ) (token : ℕ) (changes : List Change) (base : List (List ℕ)) (d : Disk) (es : List Event) (before now : Counts)
+    (result : Result Unit CommitError) → token < 2 ^ 64 → AreFiles actor changes
     → CommitCause before now result → MayCommit actor token d es → Honest d es → IsCommit actor token changes base (own es) result → IsComplete actor changes base (own es) before now result
 is-complete actor token [] base d es before now result fits files cause may honest h quiet free = subst IsOkOrMemory (sym h.1) tt
 is-complete actor token (c ∷ cs) base d es before now result fits files cause may honest (inl many) quiet free = let few = free.few in absurd (omega (arith, few, many.0))

@@ -29,7 +29,8 @@ use Rattle.folder_commit.proofs.PlanLemmas.{all-first, all-of-job, or-none}
 use Rattle.folder_commit.proofs.WalkLemmas.{ends-told}
 
 -- what changes are refused for depends on the files that they name
-pub alike : (names : List (List ℕ)) (cs : List Change) (base : List (List ℕ)) (files others : Files) → AreNamed names cs → ((n : List ℕ) → Mem n names → files n ≡ others n) → first_refusal cs base files ≡ first_refusal cs base others
+pub alike : (names : List (List ℕ)) (cs : List Change) (base : List (List ℕ)) (files others : Files) → AreNamed names cs
+    → ((n : List ℕ) → Mem n names → files n ≡ others n) → first_refusal cs base files ≡ first_refusal cs base others
 unfolding first_refusal apply
 alike names [] base files others named same = refl
 alike names (c ∷ cs) base files others named same =
@@ -59,8 +60,10 @@ module _ (actor : List ℕ) (token : ℕ) (time : ℤ) (c : Change) (cs : List C
       let fine : is_lawful n ≡ true = subst (λ (z : List ℕ). is_lawful z ≡ true) same (valid-plain job is (is.valid (edits_of job) refl) x x_in).1 in
       false_from_ne_true _ (λ e. lawful-staged n t k fine ((bytes_eq-Decides n (staged_name t k)).0 e))
 
-  pub end-told : IsJob job → (es : List Event) (result : Result Unit CommitError) → Commits job es result → TellsFaults es result → TellsEnd (first_names (c ∷ cs)) (end_told actor (c ∷ cs) base es) result
+  pub end-told : IsJob job → (es : List Event) (result : Result Unit CommitError) → Commits job es result → TellsFaults es result
+      → TellsEnd (first_names (c ∷ cs)) (end_told actor (c ∷ cs) base es) result
   end-told is es result h faults =
       let T : List (List ℕ) → Type 0 = λ ns. TellsEnd ns (by_right actor (refusal_told (c ∷ cs) base es) ns es) result in
       subst T (all-first actor token (c ∷ cs) base)
-      (ends-told actor token time (edit_for (c ∷ cs) base (name_of c)) (map (edit_for (c ∷ cs) base) (without (name_of c) (first_names cs))) job.refusal by-names (plain-names is) (no-staged is) (seen_in es) es result h.end h.is_as h.goes faults (λ n m. refl))
+      (ends-told actor token time (edit_for (c ∷ cs) base (name_of c))
+      (map (edit_for (c ∷ cs) base) (without (name_of c) (first_names cs))) job.refusal by-names (plain-names is) (no-staged is) (seen_in es) es result h.end h.is_as h.goes faults (λ n m. refl))

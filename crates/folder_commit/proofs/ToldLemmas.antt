@@ -173,7 +173,8 @@ module _ (j : Job) where
   undoing-bad r n ns ls th h m done true = (tt, refl)
   undoing-bad r n ns ls th h m done false = good_undoing r ns ls th h
 
-  placing-bad : (r : Record) (x : Item) (xs : List Item) (ls : List (List ℕ)) (th : Then) → CleanThen th → (from to : List ℕ) (done failed : Bool) → Steps (Placing r x xs ls th) (event.Publish from to done failed)
+  placing-bad : (r : Record) (x : Item) (xs : List Item) (ls : List (List ℕ)) (th : Then) → CleanThen th → (from to : List ℕ) (done failed : Bool)
+      → Steps (Placing r x xs ls th) (event.Publish from to done failed)
   placing-bad r x xs ls th h from to done true = (tt, refl)
   placing-bad r x xs ls th h from to done false = good_placing r xs ls th h
 
@@ -184,15 +185,18 @@ module _ (j : Job) where
   testing-bad r x xs ls m seen.Failed = (tt, refl)
   testing-bad r x xs ls m seen.Memory = (tt, refl)
 
-  removing-bad : (r : Record) (x : Item) (xs : List Item) (ls : List (List ℕ)) (th : Then) → CleanThen th → (m : List ℕ) (done failed : Bool) → Steps (Removing r x xs ls th) (event.Erase m done failed)
+  removing-bad : (r : Record) (x : Item) (xs : List Item) (ls : List (List ℕ)) (th : Then) → CleanThen th → (m : List ℕ) (done failed : Bool)
+      → Steps (Removing r x xs ls th) (event.Erase m done failed)
   removing-bad r x xs ls th h m done true = (tt, refl)
   removing-bad r x xs ls th h m done false = (h, refl)
 
-  extending-bad : (r : Record) (x : Item) (xs : List Item) (ls : List (List ℕ)) (th : Then) → CleanThen th → (m : List ℕ) (at : ℕ) (tail : List ℕ) (failed : Bool) → Steps (Extending r x xs ls th) (event.Extend m at tail failed)
+  extending-bad : (r : Record) (x : Item) (xs : List Item) (ls : List (List ℕ)) (th : Then) → CleanThen th
+      → (m : List ℕ) (at : ℕ) (tail : List ℕ) (failed : Bool) → Steps (Extending r x xs ls th) (event.Extend m at tail failed)
   extending-bad r x xs ls th h m at tail true = (tt, refl)
   extending-bad r x xs ls th h m at tail false = (h, refl)
 
-  discarding-bad : (r : Record) (x : Item) (xs : List Item) (ls : List (List ℕ)) (th : Then) → CleanThen th → (m : List ℕ) (done failed : Bool) → Steps (Discarding r x xs ls th) (event.Erase m done failed)
+  discarding-bad : (r : Record) (x : Item) (xs : List Item) (ls : List (List ℕ)) (th : Then) → CleanThen th → (m : List ℕ) (done failed : Bool)
+      → Steps (Discarding r x xs ls th) (event.Erase m done failed)
   discarding-bad r x xs ls th h m done true = (tt, refl)
   discarding-bad r x xs ls th h m done false = good_placing r xs ls th h
 
@@ -272,11 +276,14 @@ module _ (j : Job) where
   step-bad (Timing time) e h is = subst (Steps (Timing time)) (sym (ask-is time e is)) (tt, refl)
   step-bad Looking e h is = let w = load-is (record_name j.actor) e is in subst (Steps Looking) (sym w.1) (looking-bad (record_name j.actor) w.0)
   step-bad (Undoing r n ns ls th) e h is = let w = erase-is (staged_name r.token n) e is in subst (Steps (Undoing r n ns ls th)) (sym w.2) (undoing-bad r n ns ls th h (staged_name r.token n) w.0 w.1)
-  step-bad (Placing r x xs ls th) e h is = let w = publish-is (staged_name r.token x.name) x.name e is in subst (Steps (Placing r x xs ls th)) (sym w.2) (placing-bad r x xs ls th h (staged_name r.token x.name) x.name w.0 w.1)
+  step-bad (Placing r x xs ls th) e h is = let w = publish-is (staged_name r.token x.name) x.name e is in
+      subst (Steps (Placing r x xs ls th)) (sym w.2) (placing-bad r x xs ls th h (staged_name r.token x.name) x.name w.0 w.1)
   step-bad (Testing r x xs ls) e h is = let w = load-is (staged_name r.token x.name) e is in subst (Steps (Testing r x xs ls)) (sym w.1) (testing-bad r x xs ls (staged_name r.token x.name) w.0)
   step-bad (Removing r x xs ls th) e h is = let w = erase-is x.name e is in subst (Steps (Removing r x xs ls th)) (sym w.2) (removing-bad r x xs ls th h x.name w.0 w.1)
-  step-bad (Extending r x xs ls th) e h is = let w = extend-is x.name (stay x.way) (bytes_of x.staged) e is in subst (Steps (Extending r x xs ls th)) (sym w.2) (extending-bad r x xs ls th h x.name (stay x.way) w.0 w.1)
-  step-bad (Discarding r x xs ls th) e h is = let w = erase-is (staged_name r.token x.name) e is in subst (Steps (Discarding r x xs ls th)) (sym w.2) (discarding-bad r x xs ls th h (staged_name r.token x.name) w.0 w.1)
+  step-bad (Extending r x xs ls th) e h is = let w = extend-is x.name (stay x.way) (bytes_of x.staged) e is in
+      subst (Steps (Extending r x xs ls th)) (sym w.2) (extending-bad r x xs ls th h x.name (stay x.way) w.0 w.1)
+  step-bad (Discarding r x xs ls th) e h is = let w = erase-is (staged_name r.token x.name) e is in
+      subst (Steps (Discarding r x xs ls th)) (sym w.2) (discarding-bad r x xs ls th h (staged_name r.token x.name) w.0 w.1)
   step-bad (Unlocking r n ns th) e h is = let w = unlock-is n r.token e is in subst (Steps (Unlocking r n ns th)) (sym w.2) (unlocking-bad r n ns th h n r.token w.0 w.1)
   step-bad (Erasing r th) e h is = let w = erase-is (record_name j.actor) e is in subst (Steps (Erasing r th)) (sym w.2) (erasing-bad r th h (record_name j.actor) w.0 w.1)
   step-bad (Clearing f) e h is = let w = erase-is (new_name j.actor) e is in subst (Steps (Clearing f)) (sym w.2) (clearing-bad f (new_name j.actor) w.0 w.1)
@@ -284,9 +291,11 @@ module _ (j : Job) where
   step-bad Publishing e h is = let w = publish-is (new_name j.actor) (record_name j.actor) e is in subst (Steps Publishing) (sym w.2) (publishing-bad (new_name j.actor) (record_name j.actor) w.0 w.1)
   step-bad (Locking ls x left) e h is = let w = lock-is x.name j.token e is in subst (Steps (Locking ls x left)) (sym w.2) (locking-bad ls x left x.name j.token w.0 w.1)
   step-bad (Loading done x left) e h is = let w = load-is x.name e is in subst (Steps (Loading done x left)) (sym w.1) (loading-bad done x left x.name w.0)
-  step-bad (Staging ns done x left) e h is = let w = stage-is (staged_name j.token x.edit.name) x.content e is in subst (Steps (Staging ns done x left)) (sym w.2) (staging-bad ns done x left (staged_name j.token x.edit.name) w.0 w.1)
+  step-bad (Staging ns done x left) e h is = let w = stage-is (staged_name j.token x.edit.name) x.content e is in
+      subst (Steps (Staging ns done x left)) (sym w.2) (staging-bad ns done x left (staged_name j.token x.edit.name) w.0 w.1)
   step-bad (Deciding done) e h is = let w = stage-is (new_name j.actor) (written (go_of j done)) e is in subst (Steps (Deciding done)) (sym w.2) (deciding-bad done (new_name j.actor) w.0 w.1)
-  step-bad (Committing made) e h is = let w = publish-is (new_name j.actor) (record_name j.actor) e is in subst (Steps (Committing made)) (sym w.2) (committing-bad made (new_name j.actor) (record_name j.actor) w.0 w.1)
+  step-bad (Committing made) e h is = let w = publish-is (new_name j.actor) (record_name j.actor) e is in
+      subst (Steps (Committing made)) (sym w.2) (committing-bad made (new_name j.actor) (record_name j.actor) w.0 w.1)
   step-bad Checking e h is = let w = load-is (record_name j.actor) e is in subst (Steps Checking) (sym w.1) (checking-bad (record_name j.actor) w.0)
   step-bad (Releasing a) e h is = subst (Steps (Releasing a)) (sym (release-is (right_name j.actor) e is)) (releasing-bad a (right_name j.actor))
   step-bad (Ended a) e h is = absurd is
@@ -306,7 +315,8 @@ module _ (j : Job) where
   fails-told (e ∷ es) s end h (now, from, is, more) =
       let at = as_bad from in
       let step = step-bad now e at.0 is in
-      fails-told es (after_reply j now (reply e)) end step.0 more ∙ ap (λ (b : Bool). b || list_any is_failed es) (step.1 ∙ ap (λ (b : Bool). b || is_failed e) at.1) ∙ or_assoc (is_bad s) (is_failed e) (list_any is_failed es)
+      fails-told es (after_reply j now (reply e)) end step.0 more
+      ∙ ap (λ (b : Bool). b || list_any is_failed es) (step.1 ∙ ap (λ (b : Bool). b || is_failed e) at.1) ∙ or_assoc (is_bad s) (is_failed e) (list_any is_failed es)
     where
       as_bad : ((now ≡ s) ⊎ (now ≡ refused j s)) → AsBad s now
       as_bad (inl p) = subst (AsBad s) (sym p) (h, refl)

@@ -201,7 +201,8 @@ module _ (actor : List ℕ) (token : ℕ) (time : ℤ) (first : Edit) (more : Li
       let all : made_names done ≡ names = sym (append-nil (made_names done)) ∙ is in
       by_names (seen_files done) files (λ n m. sym (in-made done n (seen_in es n) (subst (Mem n) (sym all) m)) ∙ sym (h n m))
 
-  so_loading : (done : List Made) (left : List Edit) (es : List Event) → Shown done es → made_names done ++ all_names left ≡ names → Ends_so (loading job done left) es (by_load actor why (all_names left) es)
+  so_loading : (done : List Made) (left : List Edit) (es : List Event) → Shown done es → made_names done ++ all_names left ≡ names
+      → Ends_so (loading job done left) es (by_load actor why (all_names left) es)
   so_loading done [] es h is =
       let P : Option Refusal → Type 0 = λ o. Ends_so (judged job done (refusal (seen_files done))) es (by_changes o (by_decision actor es)) in
       subst P (judged-so done es h is) (so_judged done (refusal (seen_files done)) es)
@@ -245,18 +246,22 @@ module _ (actor : List ℕ) (token : ℕ) (time : ℤ) (first : Edit) (more : Li
 
   w-undoing : (r : Record) (n : List ℕ) (ns ls : List (List ℕ)) (th : Then) (m : List ℕ) (d f : Bool) → f ≡ false → Walks (Undoing r n ns ls th) (event.Erase m d f)
   w-undoing r n ns ls th m d true h = absurd (cc)
-  w-undoing r n ns ls th m d false h = λ es k. as-end (undoing r ns ls th) es (end_then th es) (end_then th (event.Erase m d false ∷ es)) (so_undoing r ns ls th es (shown-erase th m d false es k)) (skip-erase th m d false es)
+  w-undoing r n ns ls th m d false h = λ es k. as-end (undoing r ns ls th) es (end_then th es) (end_then th (event.Erase m d false ∷ es))
+      (so_undoing r ns ls th es (shown-erase th m d false es k)) (skip-erase th m d false es)
 
-  w-placing : (r : Record) (x : Item) (xs : List Item) (ls : List (List ℕ)) (th : Then) (m : List ℕ) (d f : Bool) → f ≡ false → Walks (Placing r x xs ls th) (event.Publish (staged_name r.token x.name) m d f)
+  w-placing : (r : Record) (x : Item) (xs : List Item) (ls : List (List ℕ)) (th : Then) (m : List ℕ) (d f : Bool) → f ≡ false
+      → Walks (Placing r x xs ls th) (event.Publish (staged_name r.token x.name) m d f)
   w-placing r x xs ls th m d true h = absurd (cc)
   w-placing r x xs ls th m d false h = λ es k.
-      as-end (placing r xs ls th) es (end_then th es) (end_then th (event.Publish (staged_name r.token x.name) m d false ∷ es)) (so_placing r xs ls th es (shown-publish th (staged_name r.token x.name) m d false es k)) (skip-publish th r.token x.name m d false es)
+      as-end (placing r xs ls th) es (end_then th es) (end_then th (event.Publish (staged_name r.token x.name) m d false ∷ es))
+      (so_placing r xs ls th es (shown-publish th (staged_name r.token x.name) m d false es k)) (skip-publish th r.token x.name m d false es)
 
   -- a staged file is none of the files
   shown-staged : (t : ℕ) (n : List ℕ) (c : Option (List ℕ)) (held : Bool) (es : List Event) → Shown [] (event.Load (staged_name t n) (seen.Bytes c held) ∷ es) → Shown [] es
   shown-staged t n c held es h = λ k m. h k m ∙ cond-false _ _ _ (unstaged k m t n)
 
-  w-testing : (r : Record) (x : Item) (xs : List Item) (ls : List (List ℕ)) (s : Seen) → is_failed (event.Load (staged_name r.token x.name) s) ≡ false → Walks (Testing r x xs ls) (event.Load (staged_name r.token x.name) s)
+  w-testing : (r : Record) (x : Item) (xs : List Item) (ls : List (List ℕ)) (s : Seen) → is_failed (event.Load (staged_name r.token x.name) s) ≡ false
+      → Walks (Testing r x xs ls) (event.Load (staged_name r.token x.name) s)
   w-testing r x xs ls (seen.Bytes None held) h = λ es k. so_placing r xs ls GoOn es (shown-staged r.token x.name None held es k)
   w-testing r x xs ls (seen.Bytes (Some bytes) held) h = λ es k. so_known x.way r (record x { staged = Some bytes }) xs ls es (shown-staged r.token x.name (Some bytes) held es k)
   w-testing r x xs ls (seen.TooLarge k) h = λ es k. (tt, refl)
@@ -275,7 +280,8 @@ module _ (actor : List ℕ) (token : ℕ) (time : ℤ) (first : Edit) (more : Li
   shown-extend GoOn m at tail f es h = h
   shown-extend (Answer a) m at tail f es h = tt
 
-  w-extending : (r : Record) (x : Item) (xs : List Item) (ls : List (List ℕ)) (th : Then) (m : List ℕ) (at : ℕ) (tail : List ℕ) (f : Bool) → f ≡ false → Walks (Extending r x xs ls th) (event.Extend m at tail f)
+  w-extending : (r : Record) (x : Item) (xs : List Item) (ls : List (List ℕ)) (th : Then) (m : List ℕ) (at : ℕ) (tail : List ℕ) (f : Bool) → f ≡ false
+      → Walks (Extending r x xs ls th) (event.Extend m at tail f)
   w-extending r x xs ls th m at tail true h = absurd (cc)
   w-extending r x xs ls th m at tail false h = λ es k. (shown-extend th m at tail false es k, sym (skip-extend th m at tail false es))
 
@@ -328,10 +334,12 @@ module _ (actor : List ℕ) (token : ℕ) (time : ℤ) (first : Edit) (more : Li
   w-locking ls x left t true false h = λ es k. so_locking (ls ++ x.name ∷ []) left es k
   w-locking ls x left t false false h = λ es k. so_refusing [] ls (Refused (Busy x.name)) es
 
-  loaded-so : (done : List Made) (x : Edit) (left : List Edit) (c : Option (List ℕ)) (es : List Event) → Shown (done ++ made_by x c (x.by c) ∷ []) es → made_names done ++ all_names (x ∷ left) ≡ names → Ends_so (loaded job done x left c (x.by c)) es (by_load actor why (all_names left) es)
+  loaded-so : (done : List Made) (x : Edit) (left : List Edit) (c : Option (List ℕ)) (es : List Event) → Shown (done ++ made_by x c (x.by c) ∷ []) es
+      → made_names done ++ all_names (x ∷ left) ≡ names → Ends_so (loaded job done x left c (x.by c)) es (by_load actor why (all_names left) es)
   loaded-so done x left c es h is =
       let y = made_by x c (x.by c) in
-      subst (λ (s : State). Ends_so s es (by_load actor why (all_names left) es)) (sym (loaded-by job done x left c (x.by c))) (so_loading (done ++ y ∷ []) left es h (names-more done y (all_names left) ∙ is))
+      subst (λ (s : State). Ends_so s es (by_load actor why (all_names left) es)) (sym (loaded-by job done x left c (x.by c)))
+      (so_loading (done ++ y ∷ []) left es h (names-more done y (all_names left) ∙ is))
 
   w-loading : (done : List Made) (x : Edit) (left : List Edit) (s : Seen) → is_failed (event.Load x.name s) ≡ false → Walks (Loading done x left) (event.Load x.name s)
   w-loading done x left (seen.Bytes c held) h = λ es k. loaded-so done x left c es (λ n m. k.0 n m ∙ one-more done (made_by x c (x.by c)) n (seen_in es n)) k.1
@@ -353,7 +361,8 @@ module _ (actor : List ℕ) (token : ℕ) (time : ℤ) (first : Edit) (more : Li
 
   w-committing : (made : List Made) (m : List ℕ) (d f : Bool) → f ≡ false → Walks (Committing made) (event.Publish (new_name actor) m d f)
   w-committing made m d true h = absurd (cc)
-  w-committing made m true false h = λ es k. as-end (placing (go_of job made) (made_items job made) names (Answer Done)) es Done (by_decision actor (event.Publish (new_name actor) m true false ∷ es)) (so_placing (go_of job made) (made_items job made) names (Answer Done) es tt) (decision-here m true false es)
+  w-committing made m true false h = λ es k. as-end (placing (go_of job made) (made_items job made) names (Answer Done)) es Done
+      (by_decision actor (event.Publish (new_name actor) m true false ∷ es)) (so_placing (go_of job made) (made_items job made) names (Answer Done) es tt) (decision-here m true false es)
   w-committing made m false false h = λ es k. (tt, sym (decision-here m false false es))
 
   -- an event that is this one and hasn't failed
@@ -364,12 +373,16 @@ module _ (actor : List ℕ) (token : ℕ) (time : ℤ) (first : Edit) (more : Li
   walks Seizing e is h = let w = seize-is (right_name actor) e is in subst (Walks Seizing) (sym w.2) (w-seizing w.0 w.1 (same-failed e _ w.2 h))
   walks (Timing at) e is h = subst (Walks (Timing at)) (sym (ask-is at e is)) (λ es k. (k, refl))
   walks Looking e is h = let w = load-is (record_name actor) e is in subst (Walks Looking) (sym w.1) (w-looking w.0 (same-failed e _ w.1 h))
-  walks (Undoing r n ns ls th) e is h = let w = erase-is (staged_name r.token n) e is in subst (Walks (Undoing r n ns ls th)) (sym w.2) (w-undoing r n ns ls th (staged_name r.token n) w.0 w.1 (same-failed e _ w.2 h))
-  walks (Placing r x xs ls th) e is h = let w = publish-is (staged_name r.token x.name) x.name e is in subst (Walks (Placing r x xs ls th)) (sym w.2) (w-placing r x xs ls th x.name w.0 w.1 (same-failed e _ w.2 h))
+  walks (Undoing r n ns ls th) e is h = let w = erase-is (staged_name r.token n) e is in
+      subst (Walks (Undoing r n ns ls th)) (sym w.2) (w-undoing r n ns ls th (staged_name r.token n) w.0 w.1 (same-failed e _ w.2 h))
+  walks (Placing r x xs ls th) e is h = let w = publish-is (staged_name r.token x.name) x.name e is in
+      subst (Walks (Placing r x xs ls th)) (sym w.2) (w-placing r x xs ls th x.name w.0 w.1 (same-failed e _ w.2 h))
   walks (Testing r x xs ls) e is h = let w = load-is (staged_name r.token x.name) e is in subst (Walks (Testing r x xs ls)) (sym w.1) (w-testing r x xs ls w.0 (same-failed e _ w.1 h))
   walks (Removing r x xs ls th) e is h = let w = erase-is x.name e is in subst (Walks (Removing r x xs ls th)) (sym w.2) (w-removing r x xs ls th x.name w.0 w.1 (same-failed e _ w.2 h))
-  walks (Extending r x xs ls th) e is h = let w = extend-is x.name (stay x.way) (bytes_of x.staged) e is in subst (Walks (Extending r x xs ls th)) (sym w.2) (w-extending r x xs ls th x.name (stay x.way) w.0 w.1 (same-failed e _ w.2 h))
-  walks (Discarding r x xs ls th) e is h = let w = erase-is (staged_name r.token x.name) e is in subst (Walks (Discarding r x xs ls th)) (sym w.2) (w-discarding r x xs ls th (staged_name r.token x.name) w.0 w.1 (same-failed e _ w.2 h))
+  walks (Extending r x xs ls th) e is h = let w = extend-is x.name (stay x.way) (bytes_of x.staged) e is in
+      subst (Walks (Extending r x xs ls th)) (sym w.2) (w-extending r x xs ls th x.name (stay x.way) w.0 w.1 (same-failed e _ w.2 h))
+  walks (Discarding r x xs ls th) e is h = let w = erase-is (staged_name r.token x.name) e is in
+      subst (Walks (Discarding r x xs ls th)) (sym w.2) (w-discarding r x xs ls th (staged_name r.token x.name) w.0 w.1 (same-failed e _ w.2 h))
   walks (Unlocking r n ns th) e is h = let w = unlock-is n r.token e is in subst (Walks (Unlocking r n ns th)) (sym w.2) (w-unlocking r n ns th n r.token w.0 w.1 (same-failed e _ w.2 h))
   walks (Erasing r th) e is h = let w = erase-is (record_name actor) e is in subst (Walks (Erasing r th)) (sym w.2) (w-erasing r th (record_name actor) w.0 w.1 (same-failed e _ w.2 h))
   walks (Clearing f) e is h = let w = erase-is (new_name actor) e is in subst (Walks (Clearing f)) (sym w.2) (w-clearing f (new_name actor) w.0 w.1 (same-failed e _ w.2 h))
@@ -377,9 +390,12 @@ module _ (actor : List ℕ) (token : ℕ) (time : ℤ) (first : Edit) (more : Li
   walks Publishing e is h = let w = publish-is (new_name actor) (record_name actor) e is in subst (Walks Publishing) (sym w.2) (w-publishing (record_name actor) w.0 w.1 (same-failed e _ w.2 h))
   walks (Locking ls x left) e is h = let w = lock-is x.name token e is in subst (Walks (Locking ls x left)) (sym w.2) (w-locking ls x left token w.0 w.1 (same-failed e _ w.2 h))
   walks (Loading done x left) e is h = let w = load-is x.name e is in subst (Walks (Loading done x left)) (sym w.1) (w-loading done x left w.0 (same-failed e _ w.1 h))
-  walks (Staging ns done x left) e is h = let w = stage-is (staged_name token x.edit.name) x.content e is in subst (Walks (Staging ns done x left)) (sym w.2) (w-staging ns done x left (staged_name token x.edit.name) w.0 w.1 (same-failed e _ w.2 h))
-  walks (Deciding done) e is h = let w = stage-is (new_name actor) (written (go_of job done)) e is in subst (Walks (Deciding done)) (sym w.2) (w-deciding done (new_name actor) w.0 w.1 (same-failed e _ w.2 h))
-  walks (Committing made) e is h = let w = publish-is (new_name actor) (record_name actor) e is in subst (Walks (Committing made)) (sym w.2) (w-committing made (record_name actor) w.0 w.1 (same-failed e _ w.2 h))
+  walks (Staging ns done x left) e is h = let w = stage-is (staged_name token x.edit.name) x.content e is in
+      subst (Walks (Staging ns done x left)) (sym w.2) (w-staging ns done x left (staged_name token x.edit.name) w.0 w.1 (same-failed e _ w.2 h))
+  walks (Deciding done) e is h = let w = stage-is (new_name actor) (written (go_of job done)) e is in
+      subst (Walks (Deciding done)) (sym w.2) (w-deciding done (new_name actor) w.0 w.1 (same-failed e _ w.2 h))
+  walks (Committing made) e is h = let w = publish-is (new_name actor) (record_name actor) e is in
+      subst (Walks (Committing made)) (sym w.2) (w-committing made (record_name actor) w.0 w.1 (same-failed e _ w.2 h))
   walks Checking e is h = λ es k. absurd k
   walks (Releasing a) e is h = subst (Walks (Releasing a)) (sym (release-is (right_name actor) e is)) (λ es k. (tt, refl))
   walks (Ended a) e is h = absurd is
@@ -428,7 +444,8 @@ module _ (actor : List ℕ) (token : ℕ) (time : ℤ) (first : Edit) (more : Li
   wants-clean : (s : State) (ns ls : List (List ℕ)) → refused job s ≡ refusing job ns ls NoMemory → ((es : List Event) → AllQuiet es → end_from s es ≡ NoMemory) → Wants s
   wants-clean s ns ls is quiet es end goes k =
       let W : State → Type 0 = λ t. Goes job t es (Ended end) → Ends_so t es (end_from s es) in
-      subst W (sym is) (λ there. as-end (refusing job ns ls NoMemory) es NoMemory (end_from s es) (so_refusing ns ls NoMemory es) (quiet es (all-quiet job es (refusing job ns ls NoMemory) (Ended end) (cleans-refusing job ns ls NoMemory) there))) goes
+      subst W (sym is) (λ there. as-end (refusing job ns ls NoMemory) es NoMemory (end_from s es) (so_refusing ns ls NoMemory es)
+      (quiet es (all-quiet job es (refusing job ns ls NoMemory) (Ended end) (cleans-refusing job ns ls NoMemory) there))) goes
 
   wants-end : (es : List Event) (end : Ending) → Goes job (Releasing NoMemory) es (Ended end) → Ends_so (Releasing NoMemory) es (locks_from es)
   wants-end es end goes = (tt, sym (quiet-lock first.name (all_names more) es (all-quiet job es (Releasing NoMemory) (Ended end) tt goes)))
@@ -481,7 +498,8 @@ module _ (actor : List ℕ) (token : ℕ) (time : ℤ) (first : Edit) (more : Li
             sym w.1 ∙ subst (λ (t : State). end_from t (e ∷ es) ≡ end) p (at (subst (λ (t : State). Shape t (e ∷ es)) (sym p) w.0))
       ]
 
-  pub ends-told : (es : List Event) (result : Result Unit CommitError) (end : Ending) → AnswersAs names result end → Goes job Seizing es (Ended end) → TellsFaults es result → Shown [] es → TellsEnd names (by_right actor why names es) result
+  pub ends-told : (es : List Event) (result : Result Unit CommitError) (end : Ending) → AnswersAs names result end → Goes job Seizing es (Ended end)
+      → TellsFaults es result → Shown [] es → TellsEnd names (by_right actor why names es) result
   ends-told es (Ok u) end is goes f k = walk es Seizing end f goes k ∙ is
   ends-told es (Err (error.Busy n)) end is goes f k = walk es Seizing end f goes k ∙ is
   ends-told es (Err error.Record) end is goes f k = walk es Seizing end f goes k ∙ is

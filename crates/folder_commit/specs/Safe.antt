@@ -51,7 +51,8 @@ MetNoFault result = Unit {0}
 pub record CommitsSafely (j : Job) (changes : List Change) (base : List (List ℕ)) (d : Disk) (es : List Event) (result : Result Unit CommitError) : Type 0 where
   pub run : RunsSafely (apply changes base) j d es
   pub decided : DecidedSo result (decisions j d 0 es)
-  pub fits : (front rest : List Event) (e : Event) → es ≡ front ++ e ∷ rest → is_decision j e (disk d front) ≡ true → first_refusal changes base (made_after (apply changes base) j d (settled_files j.actor d) front) ≡ None
+  pub fits : (front rest : List Event) (e : Event) → es ≡ front ++ e ∷ rest → is_decision j e (disk d front) ≡ true
+      → first_refusal changes base (made_after (apply changes base) j d (settled_files j.actor d) front) ≡ None
   pub nothing_left : MetNoFault result → IsFresh j.actor j.token (disk d es)
   pub busy : (name : List ℕ) → result ≡ Err (error.Busy name) → MetAnother j.token d es name
 

@@ -139,4 +139,5 @@ TellsEnd files end (Err (error.TooManyNames count)) = ⊥
 -- one did; the changes, in order, can't be made of what was loaded; or it was decided.
 abbrev pub IsTold : List ℕ → List Change → List (List ℕ) → List Event → Result Unit CommitError → Type 0
 IsTold actor [] base es result = TellsFaults es result × TellsUnknown es result
-IsTold actor (c ∷ cs) base es result = TellsFaults es result × TellsUnknown es result × (length (first_names (c ∷ cs)) ≤ file_limit → TellsEnd (first_names (c ∷ cs)) (end_told actor (c ∷ cs) base es) result)
+IsTold actor (c ∷ cs) base es result = TellsFaults es result × TellsUnknown es result
+    × (length (first_names (c ∷ cs)) ≤ file_limit → TellsEnd (first_names (c ∷ cs)) (end_told actor (c ∷ cs) base es) result)

@@ -71,7 +71,8 @@ module _ (actor name : List ℕ) where
       go true is h = absurd (cc)
       go false is h = (is, h)
 
-pub busy-met : (actor : List ℕ) (token : ℕ) (d : Disk) (es : List Event) → RunsSafely (λ files. files) (recovery_for actor token) d es → (name : List ℕ) → IsTold actor (own es) (Err (error.Busy name)) → MetAnother token d es name
+pub busy-met : (actor : List ℕ) (token : ℕ) (d : Disk) (es : List Event) → RunsSafely (λ files. files) (recovery_for actor token) d es
+    → (name : List ℕ) → IsTold actor (own es) (Err (error.Busy name)) → MetAnother token d es name
 busy-met actor token d es safe name told =
     let both = told-met actor name (own es) told in
     let w = by-met actor name (own es) both.1 in
@@ -121,7 +122,8 @@ module _ (j : Job) where
   looks-fine n failed (e ∷ es) last (now, inl at, is, more) h =
       let w = load-is (record_name j.actor) e (subst (λ (s : State). IsNext (next j s) e) at is) in
       let F : Event → Type 0 = λ x. Free j.actor (x ∷ es) → IsFine (end_by j.actor (event.Seize n true failed ∷ x ∷ es)) in
-      subst F (sym w.1) (λ f. long-fine j.actor es (end_seen j.actor w.0) (free-more j.actor (event.Load (record_name j.actor) w.0) es f) (seen-fine j.actor w.0 (or-parts (is_hindrance j.actor (event.Load (record_name j.actor) w.0)) (list_any (is_hindrance j.actor) es) f).0)) h
+      subst F (sym w.1) (λ f. long-fine j.actor es (end_seen j.actor w.0) (free-more j.actor (event.Load (record_name j.actor) w.0) es f)
+      (seen-fine j.actor w.0 (or-parts (is_hindrance j.actor (event.Load (record_name j.actor) w.0)) (list_any (is_hindrance j.actor) es) f).0)) h
   looks-fine n failed (e ∷ es) last (now, inr at, is, more) h =
       let w = release-is (right_name j.actor) e (subst (λ (s : State). IsNext (next j s) e) at is) in
       subst (λ (x : Event). IsFine (end_by j.actor (event.Seize n true failed ∷ x ∷ es))) (sym w) tt
@@ -143,10 +145,12 @@ module _ (j : Job) where
       let F : Event → Type 0 = λ x. Free j.actor (x ∷ es) → Goes j (after_reply j Seizing (reply x)) es last → IsFine (end_by j.actor (x ∷ es)) in
       subst F (sym w.2) (go w.0 w.1) h there
     where
-      go : (got failed : Bool) → Free j.actor (event.Seize (right_name j.actor) got failed ∷ es) → Goes j (after_reply j Seizing (reply (event.Seize (right_name j.actor) got failed))) es last → IsFine (end_by j.actor (event.Seize (right_name j.actor) got failed ∷ es))
+      go : (got failed : Bool) → Free j.actor (event.Seize (right_name j.actor) got failed ∷ es)
+          → Goes j (after_reply j Seizing (reply (event.Seize (right_name j.actor) got failed))) es last → IsFine (end_by j.actor (event.Seize (right_name j.actor) got failed ∷ es))
       go false failed f goes = absurd (cc)
       go true true f goes = fails-fine (right_name j.actor) es last goes
-      go true false f goes = looks-fine (right_name j.actor) false es last (subst (λ (o : Option ℤ). Goes j (asking o) es last) none goes) (free-more j.actor (event.Seize (right_name j.actor) true false) es f)
+      go true false f goes = looks-fine (right_name j.actor) false es last (subst (λ (o : Option ℤ). Goes j (asking o) es last) none goes)
+          (free-more j.actor (event.Seize (right_name j.actor) true false) es f)
 
 unless-fine : (es : List Event) (end : Ending) → IsFine end → IsFine (unless_failed es end)
 unless-fine es end h = go (list_any is_failed es)
@@ -155,7 +159,8 @@ unless-fine es end h = go (list_any is_failed es)
     go true = tt
     go false = h
 
-fine-told : (actor : List ℕ) (es : List Event) (before now : Counts) (result : Result Answer RecoverError) → IsFine (told_end actor es) → IsTold actor es result → RecoverCause before now result → (Rose before.disks now.disks → ⊥) → IsOkOrMemory result
+fine-told : (actor : List ℕ) (es : List Event) (before now : Counts) (result : Result Answer RecoverError) → IsFine (told_end actor es)
+    → IsTold actor es result → RecoverCause before now result → (Rose before.disks now.disks → ⊥) → IsOkOrMemory result
 fine-told actor es before now (Ok f) fine told cause quiet = tt
 fine-told actor es before now (Err (error.Busy name)) fine told cause quiet = absurd (subst IsFine told fine)
 fine-told actor es before now (Err error.NotARecord) fine told cause quiet = absurd (subst IsFine told fine)
@@ -172,7 +177,8 @@ goes-so j es (Err error.Disk) h = (_, h)
 goes-so j es (Err error.Memory) (inl h) = (_, h)
 goes-so j es (Err error.Memory) (inr h) = (_, h)
 
-pub completes : (actor : List ℕ) (token : ℕ) (es : List Event) (before now : Counts) (result : Result Answer RecoverError) → Recovers (recovery_for actor token) es result → RecoverCause before now result → IsComplete actor es before now result
+pub completes : (actor : List ℕ) (token : ℕ) (es : List Event) (before now : Counts) (result : Result Answer RecoverError)
+    → Recovers (recovery_for actor token) es result → RecoverCause before now result → IsComplete actor es before now result
 completes actor token es before now result h cause quiet free =
     let j = recovery_for actor token in
     let w = goes-so j es result h in
@@ -180,5 +186,6 @@ completes actor token es before now result h cause quiet free =
 
 -- of a host
 pub ran-completely : {H : Type 0} {w : World H} {old new : H} (actor : List ℕ) (result : Result Answer RecoverError)
-    → Ran w old new (λ es. Recovers (recovery_for actor 0) es result) → RecoverCause (w.counts old) (w.counts new) result → Ran w old new (λ es. IsComplete actor es (w.counts old) (w.counts new) result)
+    → Ran w old new (λ es. Recovers (recovery_for actor 0) es result) → RecoverCause (w.counts old) (w.counts new) result
+    → Ran w old new (λ es. IsComplete actor es (w.counts old) (w.counts new) result)
 ran-completely {w = w} {old = old} {new = new} actor result ran cause = Ran-map (λ es h. completes actor 0 es (w.counts old) (w.counts new) result h cause) ran

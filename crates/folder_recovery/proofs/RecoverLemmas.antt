@@ -67,7 +67,8 @@ pub staged-long : (place : Place) → place.found_staged ≡ map (staged_name pl
 staged-long place staged = ap length staged ∙ length-map (staged_name place.found.token) (names_of place.found) ∙ names-long place.found
 
 -- the answer is as the machine ended
-pub recovers : (actor : List ℕ) (token : ℕ) (place : Place) (e : End) (es : List Event) → place.found_staged ≡ map (staged_name place.found.token) (names_of place.found) → EndFits 0 (length place.found.entries) e → Driven (recovery_for actor token) place.found es e
+pub recovers : (actor : List ℕ) (token : ℕ) (place : Place) (e : End) (es : List Event)
+    → place.found_staged ≡ map (staged_name place.found.token) (names_of place.found) → EndFits 0 (length place.found.entries) e → Driven (recovery_for actor token) place.found es e
     → Recovers (recovery_for actor token) es (answer_of e (recovery_plan actor) place)
 recovers actor token place (end.Recovered f) es staged fits d = d.goes
 recovers actor token place end.NotARecord es staged fits d = d.goes
@@ -75,7 +76,8 @@ recovers actor token place (end.RecordTooLarge n) es staged fits d = (inl refl, 
 recovers actor token place (end.StagedTooLarge k n) es staged fits d =
     let t = place.found.token in
     let file = nth (names_of place.found) k in
-    let same : nth place.found_staged k ≡ staged_name t file = ap (λ (ns : List (List ℕ)). nth ns k) staged ∙ nth-of (staged_name t) (names_of place.found) k (omega (arith, fits, names-long place.found)) in
+    let same : nth place.found_staged k ≡ staged_name t file =
+    ap (λ (ns : List (List ℕ)). nth ns k) staged ∙ nth-of (staged_name t) (names_of place.found) k (omega (arith, fits, names-long place.found)) in
     (inr (t, file, same), subst (λ (m : List ℕ). GoesTo (recovery_for actor token) es (Refused (jobs.TooLarge m n))) (sym same) d.goes)
 recovers actor token place end.NoMemory es staged fits d = wants d.hidden d.wanted d.goes
   where
@@ -93,7 +95,8 @@ recovers actor token place (end.Busy k) es staged fits d = absurd (omega (arith,
 recovers actor token place (end.TooLarge k n) es staged fits d = absurd (omega (arith, fits))
 recovers actor token place (end.Changed k n) es staged fits d = absurd (omega (arith, fits))
 
-pub is-named : (actor : List ℕ) (place : Place) (e : End) → place.found_staged ≡ map (staged_name place.found.token) (names_of place.found) → EndFits 0 (length place.found.entries) e → IsNamed actor (answer_of e (recovery_plan actor) place)
+pub is-named : (actor : List ℕ) (place : Place) (e : End) → place.found_staged ≡ map (staged_name place.found.token) (names_of place.found)
+    → EndFits 0 (length place.found.entries) e → IsNamed actor (answer_of e (recovery_plan actor) place)
 is-named actor place (end.RecordTooLarge n) staged fits = inl refl
 is-named actor place (end.StagedTooLarge k n) staged fits =
     let t = place.found.token in
@@ -112,7 +115,8 @@ is-caused actor place end.NoMemory old now c = tt
 is-caused actor place e old now c = tt
 
 -- another had the right
-pub kept-out : (actor : List ℕ) (token : ℕ) (name : List ℕ) (es : List Event) → name ≡ right_name actor → Begins (recovery_for actor token) begun.Busy es → Recovers (recovery_for actor token) es (Err (error.Busy name))
+pub kept-out : (actor : List ℕ) (token : ℕ) (name : List ℕ) (es : List Event) → name ≡ right_name actor
+    → Begins (recovery_for actor token) begun.Busy es → Recovers (recovery_for actor token) es (Err (error.Busy name))
 kept-out actor token name es is b = (is, subst (λ (n : List ℕ). GoesTo (recovery_for actor token) es (Refused (jobs.Busy n))) (sym is) b.goes)
 
 -- what a fault caused while the recovery was driven it caused in the whole of it

@@ -53,7 +53,8 @@ module _ (actor : List ℕ) (token : ℕ) (d : Disk) where
   }
 
   -- the run up to its release, after which nothing of its own comes
-  run-to : (front rest : List Event) (e : Event) (end : Ending) → own rest ≡ [] → IsRun (recovery_for actor token) d (front ++ e ∷ rest) (Ended end) → IsRun (recovery_for actor token) d (front ++ e ∷ []) (Ended end)
+  run-to : (front rest : List Event) (e : Event) (end : Ending) → own rest ≡ [] → IsRun (recovery_for actor token) d (front ++ e ∷ rest) (Ended end)
+      → IsRun (recovery_for actor token) d (front ++ e ∷ []) (Ended end)
   run-to front rest e end none run =
       let split : front ++ e ∷ rest ≡ (front ++ e ∷ []) ++ rest = sym (append_assoc front (e ∷ []) rest) in
       let G : List Event → Type 0 = λ es. IsRun (recovery_for actor token) d es (Ended end) in
@@ -63,7 +64,8 @@ module _ (actor : List ℕ) (token : ℕ) (d : Disk) where
       let P : List Event → Type 0 = λ es. Goes (recovery_for actor token) Seizing es (Ended end) in
       record { job = w.1.job; fresh = w.1.fresh; sound = w.1.sound; goes = subst P same run'.goes; honest = w.1.honest; lawful = w.1.lawful }
 
-  settled-at : (front rest : List Event) (f : Recovered) → own rest ≡ [] → IsRun (recovery_for actor token) d (front ++ Release (right_name actor) ∷ rest) (Ended (jobs.Recovered (found f))) → IsSettled actor (disk d (front ++ Release (right_name actor) ∷ []))
+  settled-at : (front rest : List Event) (f : Recovered) → own rest ≡ []
+      → IsRun (recovery_for actor token) d (front ++ Release (right_name actor) ∷ rest) (Ended (jobs.Recovered (found f))) → IsSettled actor (disk d (front ++ Release (right_name actor) ∷ []))
   settled-at front rest f none run =
       let j = recovery_for actor token in
       let run' = run-to front rest (Release (right_name actor)) (jobs.Recovered (found f)) none run in
@@ -73,7 +75,8 @@ module _ (actor : List ℕ) (token : ℕ) (d : Disk) where
         locks = λ n. (recovery_settles j d front (found f) n run').1;
       }
 
-  pub safely : (es : List Event) (result : Result Recovered RecoverError) → MayRecover actor token d es → Honest d es → Recovers (recovery_for actor token) (own es) result → RecoversSafely actor token d es result
+  pub safely : (es : List Event) (result : Result Recovered RecoverError) → MayRecover actor token d es → Honest d es
+      → Recovers (recovery_for actor token) (own es) result → RecoversSafely actor token d es result
   safely es result may honest h =
       let j = recovery_for actor token in
       let w = ends-somewhere j (own es) result h in

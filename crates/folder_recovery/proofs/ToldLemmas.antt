@@ -108,34 +108,41 @@ module _ (actor : List ℕ) (token : ℕ) where
   abbrev Stays : Ending → State → Event → Type 0
   Stays x s e = GoesWith x s e ⊎ Cuts x s e
 
-  undoing-stays : (x : Ending) (r : Record) (n : List ℕ) (ns ls : List (List ℕ)) → x ≡ Recovered (found_of r) → (done failed : Bool) → Stays x (Undoing r n ns ls GoOn) (event.Erase (staged_name r.token n) done failed)
+  undoing-stays : (x : Ending) (r : Record) (n : List ℕ) (ns ls : List (List ℕ)) → x ≡ Recovered (found_of r) → (done failed : Bool)
+      → Stays x (Undoing r n ns ls GoOn) (event.Erase (staged_name r.token n) done failed)
   undoing-stays x r n ns ls h done true = inr (Failed Before, refl, λ m. refl)
   undoing-stays x r n ns ls h done false = inl (heads_undoing x r ns ls h, λ es. refl)
 
-  placing-stays : (x : Ending) (r : Record) (y : Item) (ys : List Item) (ls : List (List ℕ)) → x ≡ Recovered (found_of r) → (done failed : Bool) → Stays x (Placing r y ys ls GoOn) (event.Publish (staged_name r.token y.name) y.name done failed)
+  placing-stays : (x : Ending) (r : Record) (y : Item) (ys : List Item) (ls : List (List ℕ)) → x ≡ Recovered (found_of r) → (done failed : Bool)
+      → Stays x (Placing r y ys ls GoOn) (event.Publish (staged_name r.token y.name) y.name done failed)
   placing-stays x r y ys ls h done true = inr (Failed Before, refl, λ m. refl)
   placing-stays x r y ys ls h done false = inl (heads_placing x r ys ls h, λ es. refl)
 
-  testing-stays : (x : Ending) (r : Record) (y : Item) (ys : List Item) (ls : List (List ℕ)) → x ≡ Recovered (found_of r) → (s : Seen) → (Stays x (Testing r y ys ls) (event.Load (staged_name r.token y.name) s)) ⊎ (s ≡ seen.Memory)
+  testing-stays : (x : Ending) (r : Record) (y : Item) (ys : List Item) (ls : List (List ℕ)) → x ≡ Recovered (found_of r) → (s : Seen)
+      → (Stays x (Testing r y ys ls) (event.Load (staged_name r.token y.name) s)) ⊎ (s ≡ seen.Memory)
   testing-stays x r y ys ls h (seen.Bytes None held) = inl (inl (heads_placing x r ys ls h, λ es. refl))
   testing-stays x r y ys ls h (seen.Bytes (Some bytes) held) = inl (inl (heads_known x y.way r (record y { staged = Some bytes }) ys ls h, λ es. refl))
   testing-stays x r y ys ls h (seen.TooLarge k) = inl (inr (Refused (TooLarge (staged_name r.token y.name) k), refl, λ m. refl))
   testing-stays x r y ys ls h seen.Failed = inl (inr (Failed Before, refl, λ m. refl))
   testing-stays x r y ys ls h seen.Memory = inr refl
 
-  removing-stays : (x : Ending) (r : Record) (y : Item) (ys : List Item) (ls : List (List ℕ)) → x ≡ Recovered (found_of r) → (done failed : Bool) → Stays x (Removing r y ys ls GoOn) (event.Erase y.name done failed)
+  removing-stays : (x : Ending) (r : Record) (y : Item) (ys : List Item) (ls : List (List ℕ)) → x ≡ Recovered (found_of r) → (done failed : Bool)
+      → Stays x (Removing r y ys ls GoOn) (event.Erase y.name done failed)
   removing-stays x r y ys ls h done true = inr (Failed Before, refl, λ m. refl)
   removing-stays x r y ys ls h done false = inl (h, λ es. refl)
 
-  extending-stays : (x : Ending) (r : Record) (y : Item) (ys : List Item) (ls : List (List ℕ)) → x ≡ Recovered (found_of r) → (tail : List ℕ) (failed : Bool) → Stays x (Extending r y ys ls GoOn) (event.Extend y.name (stay y.way) tail failed)
+  extending-stays : (x : Ending) (r : Record) (y : Item) (ys : List Item) (ls : List (List ℕ)) → x ≡ Recovered (found_of r)
+      → (tail : List ℕ) (failed : Bool) → Stays x (Extending r y ys ls GoOn) (event.Extend y.name (stay y.way) tail failed)
   extending-stays x r y ys ls h tail true = inr (Failed Before, refl, λ m. refl)
   extending-stays x r y ys ls h tail false = inl (h, λ es. refl)
 
-  discarding-stays : (x : Ending) (r : Record) (y : Item) (ys : List Item) (ls : List (List ℕ)) → x ≡ Recovered (found_of r) → (done failed : Bool) → Stays x (Discarding r y ys ls GoOn) (event.Erase (staged_name r.token y.name) done failed)
+  discarding-stays : (x : Ending) (r : Record) (y : Item) (ys : List Item) (ls : List (List ℕ)) → x ≡ Recovered (found_of r) → (done failed : Bool)
+      → Stays x (Discarding r y ys ls GoOn) (event.Erase (staged_name r.token y.name) done failed)
   discarding-stays x r y ys ls h done true = inr (Failed Before, refl, λ m. refl)
   discarding-stays x r y ys ls h done false = inl (heads_placing x r ys ls h, λ es. refl)
 
-  unlocking-stays : (x : Ending) (r : Record) (n : List ℕ) (ns : List (List ℕ)) → x ≡ Recovered (found_of r) → (done failed : Bool) → Stays x (Unlocking r n ns GoOn) (event.Unlock n r.token done failed)
+  unlocking-stays : (x : Ending) (r : Record) (n : List ℕ) (ns : List (List ℕ)) → x ≡ Recovered (found_of r) → (done failed : Bool)
+      → Stays x (Unlocking r n ns GoOn) (event.Unlock n r.token done failed)
   unlocking-stays x r n ns h done true = inr (Failed Before, refl, λ m. refl)
   unlocking-stays x r n ns h done false = inl (heads_unlocking x r ns h, λ es. refl)
 
@@ -153,13 +160,16 @@ module _ (actor : List ℕ) (token : ℕ) where
 
   stays : (x : Ending) (s : State) (e : Event) → Heads x s → IsNext (next job s) e → Passes x s e
   stays x (Undoing r n ns ls GoOn) e h is = let w = erase-is (staged_name r.token n) e is in subst (Passes x (Undoing r n ns ls GoOn)) (sym w.2) (inl (undoing-stays x r n ns ls h w.0 w.1))
-  stays x (Placing r y ys ls GoOn) e h is = let w = publish-is (staged_name r.token y.name) y.name e is in subst (Passes x (Placing r y ys ls GoOn)) (sym w.2) (inl (placing-stays x r y ys ls h w.0 w.1))
+  stays x (Placing r y ys ls GoOn) e h is = let w = publish-is (staged_name r.token y.name) y.name e is in
+      subst (Passes x (Placing r y ys ls GoOn)) (sym w.2) (inl (placing-stays x r y ys ls h w.0 w.1))
   stays x (Testing r y ys ls) e h is =
       let w = load-is (staged_name r.token y.name) e is in
-      subst (Passes x (Testing r y ys ls)) (sym w.1) (elim (testing-stays x r y ys ls h w.0) [ inl z ↦ inl z | inr m ↦ inr (ap (λ (s : Seen). after_reply job (Testing r y ys ls) (reply (event.Load (staged_name r.token y.name) s))) m) ])
+      subst (Passes x (Testing r y ys ls)) (sym w.1)
+      (elim (testing-stays x r y ys ls h w.0) [ inl z ↦ inl z | inr m ↦ inr (ap (λ (s : Seen). after_reply job (Testing r y ys ls) (reply (event.Load (staged_name r.token y.name) s))) m) ])
   stays x (Removing r y ys ls GoOn) e h is = let w = erase-is y.name e is in subst (Passes x (Removing r y ys ls GoOn)) (sym w.2) (inl (removing-stays x r y ys ls h w.0 w.1))
   stays x (Extending r y ys ls GoOn) e h is = let w = extend-is y.name (stay y.way) e is in subst (Passes x (Extending r y ys ls GoOn)) (sym w.2) (inl (extending-stays x r y ys ls h w.0 w.1))
-  stays x (Discarding r y ys ls GoOn) e h is = let w = erase-is (staged_name r.token y.name) e is in subst (Passes x (Discarding r y ys ls GoOn)) (sym w.2) (inl (discarding-stays x r y ys ls h w.0 w.1))
+  stays x (Discarding r y ys ls GoOn) e h is = let w = erase-is (staged_name r.token y.name) e is in
+      subst (Passes x (Discarding r y ys ls GoOn)) (sym w.2) (inl (discarding-stays x r y ys ls h w.0 w.1))
   stays x (Unlocking r n ns GoOn) e h is = let w = unlock-is n r.token e is in subst (Passes x (Unlocking r n ns GoOn)) (sym w.2) (inl (unlocking-stays x r n ns h w.0 w.1))
   stays x (Erasing r GoOn) e h is = let w = erase-is (record_name actor) e is in subst (Passes x (Erasing r GoOn)) (sym w.2) (inl (erasing-stays x r h w.0 w.1))
   stays x (Clearing f) e h is = let w = erase-is (new_name actor) e is in subst (Passes x (Clearing f)) (sym w.2) (inl (clearing-stays x f h w.0 w.1))
@@ -188,7 +198,8 @@ module _ (actor : List ℕ) (token : ℕ) where
   abbrev IsLast : Ending → Ending → List Event → Type 0
   IsLast a end es = (n : List ℕ) × (es ≡ event.Release n ∷ []) × (end ≡ a)
 
-  released : (a end : Ending) (e : Event) (es : List Event) (now : State) → now ≡ Releasing a → IsNext (next job now) e → Goes job (after_reply job now (reply e)) es (Ended end) → IsLast a end (e ∷ es)
+  released : (a end : Ending) (e : Event) (es : List Event) (now : State) → now ≡ Releasing a → IsNext (next job now) e
+      → Goes job (after_reply job now (reply e)) es (Ended end) → IsLast a end (e ∷ es)
   released a end e es now p is more =
       let is' = subst (λ (s : State). IsNext (next job s) e) p is in
       let e' = release-is (right_name actor) e is' in
@@ -230,7 +241,8 @@ module _ (actor : List ℕ) (token : ℕ) where
   read-on None es end goes = last-ended (Refused NotARecord) end es goes
   read-on (Some r) es end goes = goes-on es (Recovered (found_of r)) (mending r) end (heads_mending (Recovered (found_of r)) r refl) goes
 
-  saw-on : (n m : List ℕ) (s : Seen) (es : List Event) (end : Ending) → Goes job (after_reply job Looking (reply (event.Load m s))) es (Ended end) → Is (told_end actor (event.Seize n true false ∷ event.Load m s ∷ es)) end
+  saw-on : (n m : List ℕ) (s : Seen) (es : List Event) (end : Ending) → Goes job (after_reply job Looking (reply (event.Load m s))) es (Ended end)
+      → Is (told_end actor (event.Seize n true false ∷ event.Load m s ∷ es)) end
   saw-on n m (seen.Bytes None held) es end goes = goes-on es (Recovered Nothing) (Clearing Nothing) end refl goes
   saw-on n m (seen.Bytes (Some bytes) held) es end goes = read-on (record_of bytes) es end goes
   saw-on n m (seen.TooLarge k) es end goes = last-ended (Refused (TooLarge (record_name actor) k)) end es goes
@@ -248,7 +260,8 @@ module _ (actor : List ℕ) (token : ℕ) where
       let more' = subst (λ (z : Event). G Looking z) w.1 (subst (λ (s : State). G s e) p more) in
       subst (λ (z : Event). Is (told_end actor (event.Seize n true false ∷ z ∷ es)) end) (sym w.1) (saw-on n (record_name actor) w.0 es end more')
 
-  seized : (got failed : Bool) (es : List Event) (end : Ending) → Goes job (after_reply job Seizing (reply (event.Seize (right_name actor) got failed))) es (Ended end) → Is (told_end actor (event.Seize (right_name actor) got failed ∷ es)) end
+  seized : (got failed : Bool) (es : List Event) (end : Ending)
+      → Goes job (after_reply job Seizing (reply (event.Seize (right_name actor) got failed))) es (Ended end) → Is (told_end actor (event.Seize (right_name actor) got failed ∷ es)) end
   seized got true es end goes = inl (releasing (Failed Before) end es goes)
   seized true false es end goes = looking (right_name actor) es end goes
   seized false false es end goes = busy es goes

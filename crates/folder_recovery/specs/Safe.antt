@@ -40,7 +40,8 @@ pub record IsSettled (actor : List ℕ) (d : Disk) : Type 0 where
 -- is settled. Busy is answered if another had the right.
 pub record RecoversSafely (actor : List ℕ) (token : ℕ) (d : Disk) (es : List Event) (result : Result Recovered RecoverError) : Type 0 where
   pub run : RunsSafely (λ files. files) (recovery_for actor token) d es
-  pub ends : (front rest : List Event) (found : Recovered) → es ≡ front ++ Release (right_name actor) ∷ rest → own rest ≡ [] → result ≡ Ok found → IsSettled actor (disk d (front ++ Release (right_name actor) ∷ []))
+  pub ends : (front rest : List Event) (found : Recovered) → es ≡ front ++ Release (right_name actor) ∷ rest → own rest ≡ [] → result ≡ Ok found
+      → IsSettled actor (disk d (front ++ Release (right_name actor) ∷ []))
   pub busy : (name : List ℕ) → result ≡ Err (error.Busy name) → MetAnother token d es name
 
 -- it is done, or memory was wanting

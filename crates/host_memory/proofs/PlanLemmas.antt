@@ -19,7 +19,8 @@ use Rattle.host_memory.specs.Views.{AddsOne}
 use Rattle.memory_disk.proofs.ReplayLemmas.{same-disk}
 
 -- what a call is planned as on the disk that then stands
-pub same-planned : (start start' now : Disk) (old mid : List Event) (steps : List ForeignStep) (whole : Event) (part part' : Option Part) → start' ≡ start → mid ≡ old ++ map Foreign steps → SameDisk now (disk start' mid) → part' ≡ part
+pub same-planned : (start start' now : Disk) (old mid : List Event) (steps : List ForeignStep) (whole : Event) (part part' : Option Part)
+    → start' ≡ start → mid ≡ old ++ map Foreign steps → SameDisk now (disk start' mid) → part' ≡ part
     → as_planned now whole part' ≡ as_planned (disk start (old ++ map Foreign steps)) whole part
 same-planned start start' now old mid steps whole part part' same_start same_mid shows same_part =
     ap (as_planned now whole) same_part ∙ ap (λ d. as_planned d whole part) (same-disk _ _ shows ∙ ap (λ s. disk s mid) same_start ∙ ap (disk start) same_mid)
@@ -87,6 +88,7 @@ fails-so d whole None r none is = ap is_err is ∙ refused-is d whole
 fails-so d whole (Some part) r none is = absurd (cc none)
 
 -- an extension that isn't answered a fault was allowed by the disk
-pub extended-of : (b : Bool) (name : List ℕ) (at : ℕ) (tail : List ℕ) (answer : Bool) (e : Event) → e ≡ Extend name at tail (not b) → Ok answer ≡ answer_of e → (e ≡ Extend name at tail false) × (b ≡ true)
+pub extended-of : (b : Bool) (name : List ℕ) (at : ℕ) (tail : List ℕ) (answer : Bool) (e : Event) → e ≡ Extend name at tail (not b)
+    → Ok answer ≡ answer_of e → (e ≡ Extend name at tail false) × (b ≡ true)
 extended-of true name at tail answer e is answered = (is, refl)
 extended-of false name at tail answer e is answered = absurd (cc (answered ∙ ap answer_of is))

@@ -46,7 +46,8 @@ pub if-ok : {X E : Type 0} {P Q : X → Type 0} (r : Result X E) → ((x : X) �
 if-ok (Ok x) to p = to x p
 if-ok (Err e) to p = p
 
-pub shows-more : (start old new : Disk) (trace trace' : List Event) (e : Event) → SameDisk old (disk start trace) → SameDisk new (after old e) → trace' ≡ trace ++ e ∷ [] → SameDisk new (disk start trace')
+pub shows-more : (start old new : Disk) (trace trace' : List Event) (e : Event) → SameDisk old (disk start trace) → SameDisk new (after old e)
+    → trace' ≡ trace ++ e ∷ [] → SameDisk new (disk start trace')
 shows-more start old new trace trace' e before next is =
     let whole : after old e ≡ disk start trace' = ap (λ d. after d e) (same-disk _ _ before) ∙ sym (disk-append start trace (e ∷ [])) ∙ ap (disk start) (sym is) in
     let S : Disk → Type 0 = λ d. SameDisk new d in

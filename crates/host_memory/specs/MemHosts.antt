@@ -83,7 +83,8 @@ is_lost m = is_none (host_told m)
 pub record IsAsPlanned (old new : MemHost) (failed : Bool) : Type 0 where
   pub plan : new.plan ≡ old.plan
   pub calls : new.calls ≡ next_call old.calls
-  pub told : (trace : List Event) → host_told new ≡ Some trace → (failed ≡ fails_next old) × (own : Event) × AddsOne old.tape.trace.items trace (steps_before old.plan.foreign (next_call old.calls)) own
+  pub told : (trace : List Event) → host_told new ≡ Some trace
+      → (failed ≡ fails_next old) × (own : Event) × AddsOne old.tape.trace.items trace (steps_before old.plan.foreign (next_call old.calls)) own
 
 -- A call on the disk takes the next number. While the host tells its trace afterwards, it added the steps that the plan
 -- has before this call and its own event, which is as the plan has it: carried out, or failing with this part done. It
@@ -138,7 +139,8 @@ sent (Some (Bytes left)) bytes = []
 
 -- While the host tells its trace after an output, its own event says what went out by the plan.
 abbrev pub SaysAsPlanned : MemHost → MemHost → List ℕ → Bool → Type 0
-SaysAsPlanned old new bytes failed = (trace : List Event) → host_told new ≡ Some trace → AddsOne old.tape.trace.items trace (steps_before old.plan.foreign (next_call old.calls)) (Out (sent (next_part old) bytes) failed)
+SaysAsPlanned old new bytes failed = (trace : List Event) → host_told new ≡ Some trace
+    → AddsOne old.tape.trace.items trace (steps_before old.plan.foreign (next_call old.calls)) (Out (sent (next_part old) bytes) failed)
 
 -- a count after a call: greater exactly if the call failed
 abbrev pub counted : Bool → ℕ → ℕ

@@ -194,7 +194,8 @@ pub published-counted : (from to : List ℕ) (r : Result Bool DiskFault) (a b : 
 published-counted from to (Ok done) a b rose d e is = let P : Event → Type 0 = λ e. IsCounted a b e in subst P (sym is.0) (λ f. absurd (cc f))
 published-counted from to (Err fault) a b rose d e is = let P : Event → Type 0 = λ e. IsCounted a b e in subst P (sym is.1) (λ f. rose)
 
-pub extended-counted : (name : List ℕ) (at : ℕ) (bytes : List ℕ) (r : Result Unit DiskFault) (a b : Counts) → OnErr r (Rose a.disks b.disks) → (d : Disk) (e : Event) → Extended name at bytes r d e → IsCounted a b e
+pub extended-counted : (name : List ℕ) (at : ℕ) (bytes : List ℕ) (r : Result Unit DiskFault) (a b : Counts) → OnErr r (Rose a.disks b.disks)
+    → (d : Disk) (e : Event) → Extended name at bytes r d e → IsCounted a b e
 extended-counted name at bytes (Ok u) a b rose d e is = let P : Event → Type 0 = λ e. IsCounted a b e in subst P (sym is.0) (λ f. absurd (cc f))
 extended-counted name at bytes (Err fault) a b rose d e is = let P : Event → Type 0 = λ e. IsCounted a b e in subst P (sym is.1) (λ f. rose)
 

@@ -56,7 +56,8 @@ stop-before d (event.Now seconds) = same (ended d)
 stop-before d (event.Load name seen) = same (ended d)
 stop-before d (event.Stage name bytes failed) = record { files = put-again d.files name; locks = λ q. refl; rights = λ q. refl }
 stop-before d (event.Publish from to done failed) = same (ended d)
-stop-before d (event.Extend name at tail failed) = record { files = λ q. ap (λ (file : Option (List ℕ)). with_at d.files name file q) (same-tail at (d.files name)) ∙ put-again d.files name q; locks = λ q. refl; rights = λ q. refl }
+stop-before d (event.Extend name at tail failed) =
+    record { files = λ q. ap (λ (file : Option (List ℕ)). with_at d.files name file q) (same-tail at (d.files name)) ∙ put-again d.files name q; locks = λ q. refl; rights = λ q. refl }
 stop-before d (event.Erase name done failed) = same (ended d)
 stop-before d (event.Lock name token got failed) = same (ended d)
 stop-before d (event.Unlock name token done failed) = same (ended d)

@@ -7,7 +7,7 @@ use crate::files::{give_staged, remove_file, rename_file, sync_name, write_file,
 use crate::folders::Folders;
 use crate::kinds::{is_absence, is_empty_place, is_folder, refuse_own, user};
 use crate::locks::{Marks, lock, locker_of, refuse_broken, refuse_unlocked, unlock};
-use crate::paths::{Place, actor_of, is_staged, path_of, place_before_link, place_of};
+use crate::paths::{Place, RECORD_END, actor_of, is_staged, path_of, place_before_link, place_of};
 use crate::reading::load;
 use crate::reasons::{FileError, Speaker};
 use crate::rights::Rights;
@@ -114,6 +114,20 @@ impl Disk {
     /// Which program the run is of.
     pub fn speaker(&self) -> Speaker {
         self.waits.speaker
+    }
+
+    /// The name of the run's record, if its actor is known.
+    pub fn record(&self) -> Option<String> {
+        let actor = self.actor.as_ref()?.as_str();
+        format!(in self.alloc; "{actor}{RECORD_END}").ok()
+    }
+
+    /// Whether a name is that of the run's record.
+    pub fn is_record(&self, name: &[u8]) -> bool {
+        match &self.actor {
+            Some(actor) => name.strip_prefix(actor.as_bytes()) == Some(RECORD_END.as_bytes()),
+            None => false,
+        }
     }
 
     fn place<R: Files<File = File>>(&mut self, rt: &R, name: &[u8]) -> Result<Place, FileError> {

@@ -5,7 +5,7 @@ ghost use Rattle.host_port.specs.Calls.{output_limit};
 use crate::children::{OUTPUT_LIMIT, read_front};
 use crate::files::PRIVATE;
 use crate::kinds::look;
-use crate::paths::path_of;
+use crate::paths::{last_part, path_of};
 use crate::reasons::FileError;
 use host_port::EditAnswer;
 use mail_text::Text;
@@ -15,17 +15,19 @@ use std::io::{Error, Write};
 use std::os::unix::fs::OpenOptionsExt;
 use std::process::{Command, Processes};
 
-/// What runs the shell of an editor, which it tells the name of the file by a variable, since not every shell has `$0`.
+/// What runs the shell of an editor. Its first word is the name of the file if a variable is to tell it, and else empty.
 /// On a terminal the editor has a group of processes of its own, so that an interrupt ends neither this program nor what
 /// runs the editor. If it is stopped there, so is all of the program, until that goes on: statuses from 147 to 150 are
 /// those of a job that was stopped. An editor that failed may have left the terminal as it needs it.
-const SCRIPT: &str = "MAILX_TEXT=$1
-export MAILX_TEXT
+const SCRIPT: &str = "if [ -n \"$1\" ]; then
+    MAILX_TEXT=$1
+    export MAILX_TEXT
+fi
 shift
 [ -t 0 ] || exec \"$@\"
 trap : INT QUIT
 case $1 in
-*/sh | */dash) set -- \"$1\" -c \"trap : INT QUIT; $3\" ;;
+*/sh | */dash) set -- \"$1\" -c \"trap : INT QUIT; $3\" \"$4\" ;;
 esac
 modes=$(stty -g 2>/dev/null)
 set -m
@@ -42,8 +44,14 @@ set +m
 [ $status -eq 0 ] || stty \"$modes\" 2>/dev/null
 exit $status";
 
-// The command by which a shell runs an editor: the name of the file is a word of its own, which the shell doesn't read.
-// Its input and output are the program's own.
+// Whether a shell has no word `$0` for what follows its command, as `csh`, `tcsh` and `fish`.
+fn has_no_zero(shell: &str) -> bool {
+    let name = last_part(shell);
+    name.ends_with("csh") || name == "fish"
+}
+
+// The command by which a shell runs an editor: the name of the file is a word of its own, which the shell doesn't read,
+// or the value of a variable. Its input and output are the program's own.
 fn command_of(
     alloc: Global,
     shell: &[u8],
@@ -51,18 +59,19 @@ fn command_of(
     path: &str,
 ) -> Result<Command, FileError> {
     let mut run = Command::new(alloc, "/bin/sh")?;
+    let shell = path_of(shell)?;
     let command = path_of(command)?;
-    let edit = format!(in alloc; "{command} \"$MAILX_TEXT\"")?;
-    for word in [
-        "-c",
-        SCRIPT,
-        "sh",
-        path,
-        path_of(shell)?,
-        "-c",
-        edit.as_str(),
-    ] {
+    let (variable, word, last) = if has_no_zero(shell) {
+        (path, "$MAILX_TEXT", None)
+    } else {
+        ("", "$0", Some(path))
+    };
+    let edit = format!(in alloc; "{command} \"{word}\"")?;
+    for word in ["-c", SCRIPT, "sh", variable, shell, "-c", edit.as_str()] {
         run.arg(word)?;
+    }
+    if let Some(last) = last {
+        run.arg(last)?;
     }
     Ok(run)
 }

@@ -17,6 +17,7 @@ mod real;
 mod reasons;
 mod rights;
 mod spool;
+mod standing;
 mod streams;
 mod tails;
 mod waiting;

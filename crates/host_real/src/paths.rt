@@ -9,8 +9,11 @@ use std::io::Error;
 /// The actor of deliveries, who changes mailboxes alone.
 const DELIVERY: &str = "/var/mail/.mail_deliver";
 
+/// What the name of a run's record adds to the name of its actor.
+pub const RECORD_END: &str = ".commit";
+
 /// What the names of a run's own three files add to the name of its actor.
-const OWN_ENDS: [&str; 3] = [".commit", ".commit.new", ".right"];
+const OWN_ENDS: [&str; 3] = [RECORD_END, ".commit.new", ".right"];
 
 /// What a name is to a host, and the path that it stands for.
 #[derive(Drop)]

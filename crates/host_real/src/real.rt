@@ -7,7 +7,8 @@ use crate::children::run;
 use crate::disk::Disk;
 use crate::editors::edit;
 use crate::reading::LOAD_LIMIT;
-use crate::reasons::{FileError, Speaker, tell};
+use crate::reasons::{FileError, Speaker, tell, tell_words};
+use crate::standing::Standing;
 use crate::streams::{put, take};
 use host_port::{
     ChildAnswer, ChildError, DiskFault, EditAnswer, Host, InFault, LoadAnswer, LoadError, OutFault,
@@ -20,7 +21,8 @@ use std::process::Processes;
 use std::time::{Clock, Duration};
 
 /// The host of the real machine: its standard input and output, its files, the rights that it has, the programs that
-/// it runs, and its clock. It counts its faults, and prints the reason of each on the standard error.
+/// it runs, and its clock. It counts its faults, and prints the reason of each on the standard error, and what stands of
+/// a change that ends by one.
 #[derive(Drop)]
 pub struct RealHost<R: Input> {
     rt: R,
@@ -28,6 +30,7 @@ pub struct RealHost<R: Input> {
     scratch: Text,
     input: R::Reader,
     disk: Disk,
+    standing: Standing,
     ins: u64,
     outs: u64,
     disks: u64,
@@ -50,6 +53,7 @@ impl<R: Files<File = File> + Input + Print + Eprint + Processes + Clock + Drop> 
             scratch: Text::copy(alloc, scratch)?,
             input,
             disk: Disk::new(alloc, wait),
+            standing: Standing::new(0),
             ins: 0,
             outs: 0,
             disks: 0,
@@ -144,7 +148,12 @@ impl<R: Files<File = File> + Input + Print + Eprint + Processes + Clock + Drop> 
 
     fn load(&mut self, alloc: Global, name: &[u8]) -> Result<LoadAnswer, LoadError> {
         match self.disk.load(&self.rt, alloc, name) {
-            Ok(answer) => Ok(answer),
+            Ok(answer) => {
+                if self.disk.is_record(name) {
+                    self.standing.found(answer.bytes.as_ref().map(Text::bytes));
+                }
+                Ok(answer)
+            }
             Err(FileError::TooLarge { length }) if length > LOAD_LIMIT => {
                 Err(LoadError::TooLarge { length })
             }
@@ -165,6 +174,9 @@ impl<R: Files<File = File> + Input + Print + Eprint + Processes + Clock + Drop> 
 
     fn publish(&mut self, from: &[u8], to: &[u8]) -> Result<bool, DiskFault> {
         let answer = self.disk.publish(&self.rt, from, to);
+        if self.disk.is_record(to) {
+            self.standing.put(answer.is_err());
+        }
         let speaker = self.disk.speaker();
         counted(&self.rt, self.alloc, speaker, to, answer, &mut self.disks)
     }
@@ -177,6 +189,9 @@ impl<R: Files<File = File> + Input + Print + Eprint + Processes + Clock + Drop> 
 
     fn erase(&mut self, name: &[u8]) -> Result<(), DiskFault> {
         let answer = self.disk.erase(&self.rt, name);
+        if answer.is_ok() && self.disk.is_record(name) {
+            self.standing.taken();
+        }
         let speaker = self.disk.speaker();
         counted(&self.rt, self.alloc, speaker, name, answer, &mut self.disks)
     }
@@ -194,6 +209,7 @@ impl<R: Files<File = File> + Input + Print + Eprint + Processes + Clock + Drop> 
     }
 
     fn seize(&mut self, name: &[u8]) -> Result<bool, DiskFault> {
+        self.standing = Standing::new(self.disks);
         let answer = self.disk.seize(&self.rt, name);
         let speaker = self.disk.speaker();
         counted(&self.rt, self.alloc, speaker, name, answer, &mut self.disks)
@@ -201,6 +217,15 @@ impl<R: Files<File = File> + Input + Print + Eprint + Processes + Clock + Drop> 
 
     fn release(&mut self, name: &[u8]) {
         self.disk.release(name);
+        let speaker = self.disk.speaker();
+        if let Some(words) = self.standing.words(self.disks, speaker) {
+            let record = self.disk.record();
+            let about = match &record {
+                Some(record) => record.as_bytes(),
+                None => name,
+            };
+            tell_words(&self.rt, self.alloc, speaker, about, words);
+        }
     }
 
     fn child(

@@ -1,10 +1,10 @@
-//! The cases of the leaf crates, each a line `CASE => ANSWER` of the input. The output has the case alone, and below it
-//! what was found where that isn't the answer that is wanted. A case without an answer wants none.
+//! The cases of the leaf crates, each a line `CASE => ANSWER` of the input. The output has each case whose answer isn't the
+//! one that is wanted, below it both, and last how many cases there were. A case without an answer wants none.
 //!
 //! A case is fields with `|` between them: its topic, its kind, and what the kind takes. In a field and in an answer
 //! `\n` is a line feed, `\t` a tab, `\\` a backslash and `\x` with two digits any byte. In a field `\*N;` repeats what
 //! stands before it, back to the last such mark, so that it stands there N times. An empty line and one that begins
-//! with `#` are written as they are.
+//! with `#` are passed over.
 #![tactic(auto)]
 
 mod addresses;
@@ -69,31 +69,25 @@ fn put_answer(kept: &mut Kept, case: &[Text], out: &mut Answer) {
     }
 }
 
-// Puts a line as it is.
-fn put_line(line: &str, out: &mut Answer) {
-    out.put_plain(line.as_bytes());
-    out.put_plain(b"\n");
-}
-
-// Puts the case of a line, and how the answer to it differs from the one that the line wants.
+// Puts the case of a line with its answer, if that isn't the one that the line wants.
 fn put_case(kept: &mut Kept, line: &str, out: &mut Answer) {
     let (asked, wanted) = line.split_once(" => ").unwrap_or((line, ""));
-    put_line(asked, out);
     let mut found = Answer::new(out.alloc());
     let case = fields_of(asked, &mut found);
     put_answer(kept, case.items(), &mut found);
-    out.put_difference(wanted.as_bytes(), &found);
+    out.put_difference(asked, wanted.as_bytes(), &found);
 }
 
-// Puts the lines of a text, and what differs in the cases among them.
+// Puts what differs in the cases among the lines of a text, and how many they are.
 fn put_lines(kept: &mut Kept, text: &str, out: &mut Answer) {
+    let mut cases = 0u64;
     for line in text.lines() {
-        if line.is_empty() || line.starts_with('#') {
-            put_line(line, out);
-        } else {
+        if !line.is_empty() && !line.starts_with('#') {
+            cases = cases.saturating_add(1);
             put_case(kept, line, out);
         }
     }
+    out.put_count(cases);
 }
 
 // What is written of a text.

@@ -96,7 +96,8 @@ refuses e a may none other closed = (λ is. inr (inl (none, none-some a is)), ba
     back (inr (inr (inr unclosed))) = absurd (closed unclosed)
 
 -- one that names a list
-lists : (e : Escape) (a : List ℕ) → must_stand (named e) ≡ false → (named e ≡ nothing → ⊥) → (e ≡ Read → ⊥) → (HasOpenQuote true a → OpensQuote (named e) a) → (OpensQuote (named e) a → HasOpenQuote true a)
+lists : (e : Escape) (a : List ℕ) → must_stand (named e) ≡ false → (named e ≡ nothing → ⊥) → (e ≡ Read → ⊥)
+    → (HasOpenQuote true a → OpensQuote (named e) a) → (OpensQuote (named e) a → HasOpenQuote true a)
     → (given_for behind.List a ≡ None) ↔ IsBad e a
 lists e a may some other to from = (λ is. inr (inr (inr (to (list-none a is)))), back)
   where

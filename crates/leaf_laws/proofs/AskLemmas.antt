@@ -263,7 +263,8 @@ module _ (o : Options) where
   asking (Try count) a =
       ap (λ (t : Option (List ℕ)). mode_with t o) a.tries
       ∙ cond-false _ _ _
-      (or-none (o.exists || o.ignores || o.no_system_file) (not (is_alone o)) (or-none (o.exists || o.ignores) o.no_system_file (or-none o.exists o.ignores a.exists a.ignores) a.no_system_file) (ap not (alone-of a.bare)))
+      (or-none (o.exists || o.ignores || o.no_system_file) (not (is_alone o))
+      (or-none (o.exists || o.ignores) o.no_system_file (or-none o.exists o.ignores a.exists a.ignores) a.no_system_file) (ap not (alone-of a.bare)))
       ∙ tries-it (decimal count) count refl a.least a.most
   asking Exists a = without-tries a.tries ∙ cond-true _ _ _ a.exists ∙ cond-true _ _ _ (alone-of a.bare)
   asking Receive a = without-tries a.tries ∙ cond-false _ _ _ a.exists ∙ receive a

@@ -118,7 +118,8 @@ unfolding walk
 kept-walk zero groups dropped opened names w q h = h
 kept-walk (suc depth) groups dropped opened names w q h = kept-met_all (walk depth groups dropped) (kept-walk depth groups dropped) groups dropped opened names w q h
 
-outer-met : (through : Names → Names → Walked → Walked) (dropped : Names) (name : List ℕ) (members : Option Names) (w : Walked) → is_some members ≡ false → has_name (met through dropped [] name members w).added name ≡ true
+outer-met : (through : Names → Names → Walked → Walked) (dropped : Names) (name : List ℕ) (members : Option Names) (w : Walked)
+    → is_some members ≡ false → has_name (met through dropped [] name members w).added name ≡ true
 outer-met through dropped name None w none = has-put w.added name
 outer-met through dropped name (Some these) w none = absurd (true≢false none)
 
@@ -268,13 +269,18 @@ module _ (groups : List Group) (dropped : Names) where
   }
 
   -- an alias that was walked through
-  settles-through : (opened : Names) (name : List ℕ) (these : Names) (w v : Walked) → members_of groups name ≡ Some these → Settles (opened ++ name ∷ []) these w v → Settles opened (name ∷ []) w (closed name v)
+  settles-through : (opened : Names) (name : List ℕ) (these : Names) (w v : Walked) → members_of groups name ≡ Some these
+      → Settles (opened ++ name ∷ []) these w v → Settles opened (name ∷ []) w (closed name v)
   settles-through opened name these w v some s =
       record {
         later = later-then w v (closed name v) s.later (later-closed name v);
         walked = (λ alias those over is. All-weaker (IsSettled (opened ++ name ∷ []) v) (IsSettled opened (closed name v)) (settled-closed opened name v) those (walked-there alias those over is));
         settled = All-cons (IsSettled opened (closed name v)) name []
-            (record { alias = (λ those is. or-right (is_among opened name) _ (alias-new v.over name name (same-refl name))); name = (λ none apart. absurd (cc (none, some))) }) (All-nil (IsSettled opened (closed name v)));
+            (record {
+              alias = (λ those is. or-right (is_among opened name) _ (alias-new v.over name name (same-refl name)));
+              name =
+                  (λ none apart. absurd (cc (none, some)));
+            }) (All-nil (IsSettled opened (closed name v)));
       }
     where
       walked-there : (alias : List ℕ) (those : Names) → is_among (closed name v).over alias ≡ true → members_of groups alias ≡ Some those → All (IsSettled (opened ++ name ∷ []) v) those

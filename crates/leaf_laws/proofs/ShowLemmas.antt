@@ -28,7 +28,21 @@ module _ (sets : FieldNames) where
       go : (b : Bool) → HasLines within (if b then field f ∷ kept es else kept es)
       go true = record {
         lines = on.first ∷ (on.folded ++ has.lines);
-        on = (has.lines, record { first = on.first; folded = on.folded; whole = refl; is = on.is; begins = on.begins; first_line = on.first_line; are_lines = on.are_lines; are_folded = on.are_folded }, has.on);
+        on = (
+          has.lines,
+          record {
+            first = on.first;
+            folded = on.folded;
+            whole = refl;
+            is = on.is;
+            begins = on.begins;
+            first_line =
+                on.first_line;
+            are_lines = on.are_lines;
+            are_folded = on.are_folded;
+          },
+          has.on,
+        );
       }
       go false = record { lines = has.lines; on = stand-anywhere within (kept es) has.lines has.on }
 

@@ -38,7 +38,8 @@ quote_ends lists takes b quote front bs is lacking later = elim (cases_Bool (b =
   | inl closes ↦ behind lists takes (quoted quote front) (quote ∷ (front ++ b ∷ bs)) bs
       (ap (λ (bytes : List ℕ). quote ∷ bytes) (ap (λ (c : ℕ). front ++ c ∷ bs) (eqb-true b quote closes) ∙ sym (append_assoc front (quote ∷ []) bs)))
       (is, lacking) (later.plainly false)
-  | inr other ↦ subst (λ (bytes : List ℕ). Ends lists takes (quote ∷ bytes)) (append_assoc front (b ∷ []) bs) (later.behind_quote takes quote (front ++ b ∷ []) is (lacks_more quote front b lacking other))
+  | inr other ↦ subst (λ (bytes : List ℕ). Ends lists takes (quote ∷ bytes)) (append_assoc front (b ∷ []) bs)
+      (later.behind_quote takes quote (front ++ b ∷ []) is (lacks_more quote front b lacking other))
 ]
 
 -- bytes that are closed may follow what nothing closes

@@ -40,7 +40,8 @@ none_named (c ∷ cs) after h = ((λ e. cc), h)
 
 -- ---- the errors of a line that is short enough
 
-words_error : (t : Bool) (r : CommandLine) (named : Command) (word : List ℕ) (words : Option (List (List ℕ))) (e : LineError) → cond t (Ok r) (with_words named word words) ≡ Err e → (t ≡ false) × (words ≡ None) × (e ≡ OpenQuote)
+words_error : (t : Bool) (r : CommandLine) (named : Command) (word : List ℕ) (words : Option (List (List ℕ))) (e : LineError)
+    → cond t (Ok r) (with_words named word words) ≡ Err e → (t ≡ false) × (words ≡ None) × (e ≡ OpenQuote)
 words_error true r named word words e h = absurd (cc)
 words_error false r named word None e h = (refl, refl, cc)
 words_error false r named word (Some words) e h = absurd (cc)
@@ -62,7 +63,8 @@ named_error (Some named) word after e h =
     let parts = words_error (takes_rest named) _ named word (words_by (takes_list named) after) e h in
     inr (record { named = named; is_named = refl; takes_words = parts.0; open_quote = parts.1 }, parts.2)
 
-named_open : (o : Option Command) (word after : List ℕ) (named : Command) → o ≡ Some named → takes_rest named ≡ false → words_by (takes_list named) after ≡ None → read_named o word after ≡ Err OpenQuote
+named_open : (o : Option Command) (word after : List ℕ) (named : Command) → o ≡ Some named → takes_rest named ≡ false
+    → words_by (takes_list named) after ≡ None → read_named o word after ≡ Err OpenQuote
 named_open o word after named is other none = ap (λ (x : Option Command). read_named x word after) is ∙ words_open (takes_rest named) _ named word (words_by (takes_list named) after) other none
 
 -- ---- the errors of a line
@@ -75,7 +77,8 @@ error_short line e short h =
     elim (named_error (command_in line) (command_word line) (after_word line) e h) [
       | inl x ↦ let none = none_named (command_word line) (after_word line) x.0 in
           inr (inl (command_word line, record { short = short; is = refl; some = none.0; names_none = none.1 }, x.1))
-      | inr x ↦ let open_behind = x.0 in inr (inr (record { short = short; named = open_behind.named; is_named = open_behind.is_named; takes_words = open_behind.takes_words; open_quote = open_behind.open_quote }, x.1))
+      | inr x ↦ let open_behind = x.0 in inr (inr
+          (record { short = short; named = open_behind.named; is_named = open_behind.is_named; takes_words = open_behind.takes_words; open_quote = open_behind.open_quote }, x.1))
     ]
 
 error_of : (line : List ℕ) (e : LineError) → reading line ≡ Err e → IsErrorOf line e
@@ -140,7 +143,8 @@ after_is line text after blanks k blanks_is text_is k_is is =
     let same : text ≡ text_of line = text_is ∙ ap (λ (n : ℕ). drop n line) blanks_is in
     is ∙ ap (λ (n : ℕ). drop n text) k_is ∙ ap (λ (t : List ℕ). drop (word_length t) t) same
 
-pub read_short : (line word after : List ℕ) (o p : Option Command) → length line ≤ 65536 → word ≡ command_word line → after ≡ after_word line → o ≡ command_named word after → p ≡ o → read_named p word after ≡ reading line
+pub read_short : (line word after : List ℕ) (o p : Option Command) → length line ≤ 65536 → word ≡ command_word line → after ≡ after_word line
+    → o ≡ command_named word after → p ≡ o → read_named p word after ≡ reading line
 read_short line word after o p short is_word is_after named same =
     ap (λ (x : Option Command). read_named x word after) (same ∙ named)
     ∙ ap (λ (w : List ℕ). read_named (command_named w after) w after) is_word

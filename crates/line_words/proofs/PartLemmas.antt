@@ -63,7 +63,8 @@ onto_one b [] = refl
 onto_one b (word ∷ words) = refl
 
 -- a part of one byte
-put_before : (F : List Part → Words) → Joins F → (part : Part) (b : ℕ) → is_gap part ≡ false → value_of part ≡ b ∷ [] → (o : Option Words) (p : Option (List Part)) → o ≡ option_map begun_in p → option_map (onto_first b) o ≡ option_map F (option_map (λ parts. part ∷ parts) p)
+put_before : (F : List Part → Words) → Joins F → (part : Part) (b : ℕ) → is_gap part ≡ false → value_of part ≡ b ∷ []
+    → (o : Option Words) (p : Option (List Part)) → o ≡ option_map begun_in p → option_map (onto_first b) o ≡ option_map F (option_map (λ parts. part ∷ parts) p)
 put_before F joins part b solid value o p is =
     let G : List Part → Words = λ parts. joined (b ∷ []) (begun_in parts) in
     ap (option_map (onto_first b)) is
@@ -91,11 +92,13 @@ unquoted_same lists F joins b bs later =
     (put_before F joins (plain b) b refl refl (words_from lists Word bs) (parts_of lists false bs) later.word))
 
 -- a parenthesis begins what it encloses
-paren_begins : (lists : Bool) (F : List Part → Words) → Joins F → (b : ℕ) (bs : List ℕ) → Same lists bs → option_map (onto_first b) (words_from lists (Enclosed 0) bs) ≡ option_map F (enclosed_parts lists 0 (b ∷ []) bs)
+paren_begins : (lists : Bool) (F : List Part → Words) → Joins F → (b : ℕ) (bs : List ℕ) → Same lists bs
+    → option_map (onto_first b) (words_from lists (Enclosed 0) bs) ≡ option_map F (enclosed_parts lists 0 (b ∷ []) bs)
 paren_begins lists F joins b bs later = map-same (onto_first b) (joined (b ∷ [])) (onto_one b) (words_from lists (Enclosed 0) bs) ∙ later.in_parens F joins 0 (b ∷ [])
 
 -- a blank ends the word
-blank_ends : (lists : Bool) (b : ℕ) (bs : List ℕ) → Same lists bs → option_map (λ words. [] ∷ words) (words_from lists Between bs) ≡ option_map begun_in (option_map (λ parts. blank b ∷ parts) (parts_of lists lists bs))
+blank_ends : (lists : Bool) (b : ℕ) (bs : List ℕ) → Same lists bs
+    → option_map (λ words. [] ∷ words) (words_from lists Between bs) ≡ option_map begun_in (option_map (λ parts. blank b ∷ parts) (parts_of lists lists bs))
 blank_ends lists b bs later =
     let G : List Part → Words = λ parts. [] ∷ words_in parts in
     ap (option_map (λ (words : Words). [] ∷ words)) later.between
@@ -103,7 +106,8 @@ blank_ends lists b bs later =
     ∙ sym (map-map (λ (parts : List Part). blank b ∷ parts) begun_in G (λ parts. refl) (parts_of lists lists bs))
 
 -- a part ends, and its word goes on
-part_ends : (lists : Bool) (F : List Part → Words) → Joins F → (part : Part) (run bs : List ℕ) → is_gap part ≡ false → value_of part ≡ run → Same lists bs → option_map (joined run) (words_from lists Word bs) ≡ option_map F (option_map (λ parts. part ∷ parts) (parts_of lists false bs))
+part_ends : (lists : Bool) (F : List Part → Words) → Joins F → (part : Part) (run bs : List ℕ) → is_gap part ≡ false → value_of part ≡ run
+    → Same lists bs → option_map (joined run) (words_from lists Word bs) ≡ option_map F (option_map (λ parts. part ∷ parts) (parts_of lists false bs))
 part_ends lists F joins part run bs solid value later =
     let G : List Part → Words = λ parts. joined run (begun_in parts) in
     ap (option_map (joined run)) later.word
@@ -114,7 +118,8 @@ part_ends lists F joins part run bs solid value later =
 put_behind : (text : List ℕ) (b : ℕ) (o : Option Words) → option_map (joined text) (option_map (onto_first b) o) ≡ option_map (joined (text ++ b ∷ [])) o
 put_behind text b o = map-map (onto_first b) (joined text) (joined (text ++ b ∷ [])) (onto_front text b) o
 
-parens_same : (lists : Bool) (F : List Part → Words) → Joins F → (more : ℕ) (text : List ℕ) (b : ℕ) (bs : List ℕ) → Same lists bs → option_map (joined text) (words_from lists (Enclosed more) (b ∷ bs)) ≡ option_map F (enclosed_parts lists more text (b ∷ bs))
+parens_same : (lists : Bool) (F : List Part → Words) → Joins F → (more : ℕ) (text : List ℕ) (b : ℕ) (bs : List ℕ) → Same lists bs
+    → option_map (joined text) (words_from lists (Enclosed more) (b ∷ bs)) ≡ option_map F (enclosed_parts lists more text (b ∷ bs))
 unfolding words_from enclosed_parts
 parens_same lists F joins more text b bs later =
     let whole = text ++ b ∷ [] in
@@ -124,7 +129,8 @@ parens_same lists F joins more text b bs later =
     (choose (b == 40) G (option_map F) _ _ _ _ (later.in_parens F joins (suc more) whole)
     (choose (b == 41 && more == 0) G (option_map F) _ _ _ _ (part_ends lists F joins (enclosed whole) whole bs refl refl later) (later.in_parens F joins (if b == 41 then more - 1 else more) whole)))
 
-string_same : (lists : Bool) (F : List Part → Words) → Joins F → (more : ℕ) (text : List ℕ) (b : ℕ) (bs : List ℕ) → Same lists bs → option_map (joined text) (words_from lists (InString more) (b ∷ bs)) ≡ option_map F (string_parts lists more text (b ∷ bs))
+string_same : (lists : Bool) (F : List Part → Words) → Joins F → (more : ℕ) (text : List ℕ) (b : ℕ) (bs : List ℕ) → Same lists bs
+    → option_map (joined text) (words_from lists (InString more) (b ∷ bs)) ≡ option_map F (string_parts lists more text (b ∷ bs))
 unfolding words_from string_parts
 string_same lists F joins more text b bs later =
     let whole = text ++ b ∷ [] in

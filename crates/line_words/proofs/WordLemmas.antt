@@ -79,7 +79,8 @@ abbrev pub after : Bool → Step → Words → List ℕ → ℕ → List ℕ →
 after lists step words word b bs = given lists step.act step.place words word b bs
 
 -- a byte that is kept
-kept : (words : Words) (word : List ℕ) (b : ℕ) (o : Option Words) → option_map (λ left. words ++ joined word left) (option_map (onto_first b) o) ≡ option_map (λ left. words ++ joined (word ++ b ∷ []) left) o
+kept : (words : Words) (word : List ℕ) (b : ℕ) (o : Option Words)
+    → option_map (λ left. words ++ joined word left) (option_map (onto_first b) o) ≡ option_map (λ left. words ++ joined (word ++ b ∷ []) left) o
 kept words word b o = map-map (onto_first b) (λ left. words ++ joined word left) _ (λ left. ap (λ (ws : Words). words ++ ws) (onto_front word b left)) o
 
 -- the first byte of a word
@@ -91,7 +92,8 @@ opened : (words : Words) (o : Option Words) → HasFirst o → option_map (λ le
 opened words o first = ap (option_map (λ left. words ++ left)) (sym first) ∙ map-map (joined []) (λ left. words ++ left) _ (λ left. refl) o
 
 -- the end of a word
-word_ended : (words : Words) (word : List ℕ) (o : Option Words) → option_map (λ left. words ++ joined word left) (option_map (λ left. [] ∷ left) o) ≡ option_map (λ left. (words ++ word ∷ []) ++ left) o
+word_ended : (words : Words) (word : List ℕ) (o : Option Words)
+    → option_map (λ left. words ++ joined word left) (option_map (λ left. [] ∷ left) o) ≡ option_map (λ left. (words ++ word ∷ []) ++ left) o
 word_ended words word o =
     map-map (λ (left : Words). [] ∷ left) (λ left. words ++ joined word left) _
     (λ left. ap (λ (w : List ℕ). words ++ w ∷ left) (append-nil word) ∙ sym (append_assoc words (word ∷ []) left)) o
@@ -149,11 +151,13 @@ kept_at lists place words word b bs inside =
     kept words word b (words_from lists place bs)
     ∙ map-same (λ left. words ++ joined (word ++ b ∷ []) left) (resumed place words (word ++ b ∷ [])) (λ left. sym (inside words (word ++ b ∷ []) left)) (words_from lists place bs)
 
-step_enclosed : (lists : Bool) (more : ℕ) (words : Words) (word : List ℕ) (b : ℕ) (bs : List ℕ) → gives lists (Enclosed more) words word (b ∷ bs) ≡ after lists (step_of lists (Enclosed more) b) words word b bs
+step_enclosed : (lists : Bool) (more : ℕ) (words : Words) (word : List ℕ) (b : ℕ) (bs : List ℕ)
+    → gives lists (Enclosed more) words word (b ∷ bs) ≡ after lists (step_of lists (Enclosed more) b) words word b bs
 unfolding words_from
 step_enclosed lists more words word b bs = kept_at lists (enclosed_after more b) words word b bs (in_word-enclosed more b)
 
-step_string : (lists : Bool) (more : ℕ) (words : Words) (word : List ℕ) (b : ℕ) (bs : List ℕ) → gives lists (InString more) words word (b ∷ bs) ≡ after lists (step_of lists (InString more) b) words word b bs
+step_string : (lists : Bool) (more : ℕ) (words : Words) (word : List ℕ) (b : ℕ) (bs : List ℕ)
+    → gives lists (InString more) words word (b ∷ bs) ≡ after lists (step_of lists (InString more) b) words word b bs
 unfolding words_from
 step_string lists more words word b bs = kept_at lists (string_after more b) words word b bs (in_word-string more b)
 
@@ -162,7 +166,8 @@ unfolding words_from
 step_taken lists more words word b bs = kept words word b _
 
 -- a byte before others gives what its step gives
-pub gives_step : (lists : Bool) (place : Place) (words : Words) (word : List ℕ) (b : ℕ) (bs : List ℕ) → IsReady place word → gives lists place words word (b ∷ bs) ≡ after lists (step_of lists place b) words word b bs
+pub gives_step : (lists : Bool) (place : Place) (words : Words) (word : List ℕ) (b : ℕ) (bs : List ℕ) → IsReady place word
+    → gives lists place words word (b ∷ bs) ≡ after lists (step_of lists place b) words word b bs
 gives_step lists Between words word b bs ready =
     ap (λ (w : List ℕ). gives lists Between words w (b ∷ bs)) ready ∙ step_between lists words b bs ∙ ap (λ (w : List ℕ). after lists (step_of lists Between b) words w b bs) (sym ready)
 gives_step lists Word words word b bs ready = step_word lists words word b bs
@@ -242,7 +247,8 @@ depth_by lists place b i s next is next_is fits =
     omega arith
 
 -- what is given after the step that was taken
-pub given_by : (lists : Bool) (place : Place) (words : Words) (word : List ℕ) (b : ℕ) (bs : List ℕ) (all : Option Words) (s : Step) (a : Act) → s ≡ step_of lists place b → s.act ≡ a → IsReady place word → gives lists place words word (b ∷ bs) ≡ all → given lists a s.place words word b bs ≡ all
+pub given_by : (lists : Bool) (place : Place) (words : Words) (word : List ℕ) (b : ℕ) (bs : List ℕ) (all : Option Words) (s : Step) (a : Act)
+    → s ≡ step_of lists place b → s.act ≡ a → IsReady place word → gives lists place words word (b ∷ bs) ≡ all → given lists a s.place words word b bs ≡ all
 given_by lists place words word b bs all s a is act ready so_far =
     ap (λ (x : Act). given lists x s.place words word b bs) (sym act)
     ∙ ap (λ (x : Step). after lists x words word b bs) is

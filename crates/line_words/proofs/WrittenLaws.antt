@@ -38,7 +38,8 @@ begun_plain lists b bs plain other =
     let not_it = none_of (is_blank b) (is_quote b) (b == 92) plain in
     cond-false _ _ _ not_it.0 ∙ cond-false _ _ _ other ∙ sym (cond-false _ _ _ not_it.0)
 
-quoted_written : (lists : Bool) (quote : ℕ) (word rest : List ℕ) → lacks quote word ≡ true → words_from lists (Quoted quote) (word ++ quote ∷ rest) ≡ option_map (joined word) (words_from lists Word rest)
+quoted_written : (lists : Bool) (quote : ℕ) (word rest : List ℕ) → lacks quote word ≡ true
+    → words_from lists (Quoted quote) (word ++ quote ∷ rest) ≡ option_map (joined word) (words_from lists Word rest)
 unfolding words_from
 quoted_written lists quote [] rest lacking = cond-true _ _ _ (eq-eqb quote quote refl) ∙ sym (has_first lists rest).0
 quoted_written lists quote (b ∷ bs) rest lacking =
@@ -50,7 +51,8 @@ begun_quoted : (lists : Bool) (b : ℕ) (bs : List ℕ) → is_quote b ≡ true 
 unfolding words_from
 begun_quoted lists b bs is = cond-false _ _ _ (quote_is_no_blank b is) ∙ cond-false _ _ _ (ap (λ (t : Bool). t && lists) (quote_is_no_paren b is)) ∙ cond-true _ _ _ is
 
-written_plain : (lists : Bool) (word rest : List ℕ) → (word ≡ [] → ⊥) → list_all is_plain word ≡ true → (begins_enclosed word && lists) ≡ false → words_from lists Between (word ++ rest) ≡ option_map (joined word) (words_from lists Word rest)
+written_plain : (lists : Bool) (word rest : List ℕ) → (word ≡ [] → ⊥) → list_all is_plain word ≡ true → (begins_enclosed word && lists) ≡ false
+    → words_from lists Between (word ++ rest) ≡ option_map (joined word) (words_from lists Word rest)
 written_plain lists [] rest some plain other = absurd (some refl)
 written_plain lists (b ∷ bs) rest some plain other = begun_plain lists b (bs ++ rest) (and_parts _ _ plain).0 other ∙ plain_written lists (b ∷ bs) rest plain
 

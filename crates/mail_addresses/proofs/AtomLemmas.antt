@@ -6,17 +6,47 @@ use Rattle.mail_addresses.specs.Lexical.{is_special, is_atom_byte}
 no_special_above : (b : ℕ) → 93 < b → is_special b ≡ false
 unfolding is_special
 no_special_above b high =
-    or_from _ _ (ne_eqb b 40 (λ e. omega arith)) (or_from _ _ (ne_eqb b 41 (λ e. omega arith)) (or_from _ _ (ne_eqb b 60 (λ e. omega arith)) (or_from _ _ (ne_eqb b 62 (λ e. omega arith)) (or_from _ _ (ne_eqb b 91 (λ e. omega arith)) (or_from _ _ (ne_eqb b 93 (λ e. omega arith)) (or_from _ _ (ne_eqb b 58 (λ e. omega arith)) (or_from _ _ (ne_eqb b 59 (λ e. omega arith)) (or_from _ _ (ne_eqb b 64 (λ e. omega arith)) (or_from _ _ (ne_eqb b 92 (λ e. omega arith)) (or_from _ _ (ne_eqb b 44 (λ e. omega arith)) (or_from _ _ (ne_eqb b 34 (λ e. omega arith)) (or_from _ _ (ne_eqb b 46 (λ e. omega arith)) (refl)))))))))))))
+    or_from _ _ (ne_eqb b 40 (λ e. omega arith))
+    (or_from _ _ (ne_eqb b 41 (λ e. omega arith))
+    (or_from _ _ (ne_eqb b 60 (λ e. omega arith))
+    (or_from _ _ (ne_eqb b 62 (λ e. omega arith))
+    (or_from _ _ (ne_eqb b 91 (λ e. omega arith))
+    (or_from _ _ (ne_eqb b 93 (λ e. omega arith))
+    (or_from _ _ (ne_eqb b 58 (λ e. omega arith))
+    (or_from _ _ (ne_eqb b 59 (λ e. omega arith))
+    (or_from _ _ (ne_eqb b 64 (λ e. omega arith))
+    (or_from _ _ (ne_eqb b 92 (λ e. omega arith))
+    (or_from _ _ (ne_eqb b 44 (λ e. omega arith)) (or_from _ _ (ne_eqb b 34 (λ e. omega arith)) (or_from _ _ (ne_eqb b 46 (λ e. omega arith)) (refl)))))))))))))
 
 no_special_letter : (b : ℕ) → 65 ≤ b → b ≤ 90 → is_special b ≡ false
 unfolding is_special
 no_special_letter b low high =
-    or_from _ _ (ne_eqb b 40 (λ e. omega arith)) (or_from _ _ (ne_eqb b 41 (λ e. omega arith)) (or_from _ _ (ne_eqb b 60 (λ e. omega arith)) (or_from _ _ (ne_eqb b 62 (λ e. omega arith)) (or_from _ _ (ne_eqb b 91 (λ e. omega arith)) (or_from _ _ (ne_eqb b 93 (λ e. omega arith)) (or_from _ _ (ne_eqb b 58 (λ e. omega arith)) (or_from _ _ (ne_eqb b 59 (λ e. omega arith)) (or_from _ _ (ne_eqb b 64 (λ e. omega arith)) (or_from _ _ (ne_eqb b 92 (λ e. omega arith)) (or_from _ _ (ne_eqb b 44 (λ e. omega arith)) (or_from _ _ (ne_eqb b 34 (λ e. omega arith)) (or_from _ _ (ne_eqb b 46 (λ e. omega arith)) (refl)))))))))))))
+    or_from _ _ (ne_eqb b 40 (λ e. omega arith))
+    (or_from _ _ (ne_eqb b 41 (λ e. omega arith))
+    (or_from _ _ (ne_eqb b 60 (λ e. omega arith))
+    (or_from _ _ (ne_eqb b 62 (λ e. omega arith))
+    (or_from _ _ (ne_eqb b 91 (λ e. omega arith))
+    (or_from _ _ (ne_eqb b 93 (λ e. omega arith))
+    (or_from _ _ (ne_eqb b 58 (λ e. omega arith))
+    (or_from _ _ (ne_eqb b 59 (λ e. omega arith))
+    (or_from _ _ (ne_eqb b 64 (λ e. omega arith))
+    (or_from _ _ (ne_eqb b 92 (λ e. omega arith))
+    (or_from _ _ (ne_eqb b 44 (λ e. omega arith)) (or_from _ _ (ne_eqb b 34 (λ e. omega arith)) (or_from _ _ (ne_eqb b 46 (λ e. omega arith)) (refl)))))))))))))
 
 no_special_digit : (b : ℕ) → 48 ≤ b → b ≤ 57 → is_special b ≡ false
 unfolding is_special
 no_special_digit b low high =
-    or_from _ _ (ne_eqb b 40 (λ e. omega arith)) (or_from _ _ (ne_eqb b 41 (λ e. omega arith)) (or_from _ _ (ne_eqb b 60 (λ e. omega arith)) (or_from _ _ (ne_eqb b 62 (λ e. omega arith)) (or_from _ _ (ne_eqb b 91 (λ e. omega arith)) (or_from _ _ (ne_eqb b 93 (λ e. omega arith)) (or_from _ _ (ne_eqb b 58 (λ e. omega arith)) (or_from _ _ (ne_eqb b 59 (λ e. omega arith)) (or_from _ _ (ne_eqb b 64 (λ e. omega arith)) (or_from _ _ (ne_eqb b 92 (λ e. omega arith)) (or_from _ _ (ne_eqb b 44 (λ e. omega arith)) (or_from _ _ (ne_eqb b 34 (λ e. omega arith)) (or_from _ _ (ne_eqb b 46 (λ e. omega arith)) (refl)))))))))))))
+    or_from _ _ (ne_eqb b 40 (λ e. omega arith))
+    (or_from _ _ (ne_eqb b 41 (λ e. omega arith))
+    (or_from _ _ (ne_eqb b 60 (λ e. omega arith))
+    (or_from _ _ (ne_eqb b 62 (λ e. omega arith))
+    (or_from _ _ (ne_eqb b 91 (λ e. omega arith))
+    (or_from _ _ (ne_eqb b 93 (λ e. omega arith))
+    (or_from _ _ (ne_eqb b 58 (λ e. omega arith))
+    (or_from _ _ (ne_eqb b 59 (λ e. omega arith))
+    (or_from _ _ (ne_eqb b 64 (λ e. omega arith))
+    (or_from _ _ (ne_eqb b 92 (λ e. omega arith))
+    (or_from _ _ (ne_eqb b 44 (λ e. omega arith)) (or_from _ _ (ne_eqb b 34 (λ e. omega arith)) (or_from _ _ (ne_eqb b 46 (λ e. omega arith)) (refl)))))))))))))
 
 -- a byte above the space that is no special
 by_rest : (b : ℕ) → 32 < b → is_special b ≡ false → is_atom_byte b ≡ not (b == 127)

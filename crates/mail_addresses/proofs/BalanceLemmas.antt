@@ -50,7 +50,9 @@ unfolding bare
 counts inside bs first =
     let bare_is : bare false (inside ++ 41 ∷ bs) ≡ bare false inside ++ 41 ∷ bare false bs = comment-bare first (41 ∷ bs) in
     let count : (k : ℕ) → count_of k (40 ∷ (inside ++ 41 ∷ bs)) ≡ cond (40 == k) 1 0 + (count_of k inside + (cond (41 == k) 1 0 + count_of k bs)) = λ k.
-    count-cons k 40 (bare false (inside ++ 41 ∷ bs)) ∙ ap (λ n. cond (40 == k) 1 0 + n) (ap (count_by (λ b. b == k)) bare_is ∙ count-append k (bare false inside) (41 ∷ bare false bs) ∙ ap (λ n. count_of k inside + n) (count-cons k 41 (bare false bs))) in
+    count-cons k 40 (bare false (inside ++ 41 ∷ bs))
+    ∙ ap (λ n. cond (40 == k) 1 0 + n) (ap (count_by (λ b. b == k)) bare_is ∙ count-append k (bare false inside) (41 ∷ bare false bs)
+    ∙ ap (λ n. count_of k inside + n) (count-cons k 41 (bare false bs))) in
     record { opens = count 40 ∙ omega arith; closes = count 41 ∙ omega arith }
 
 even : {text : List ℕ} → IsCommentContent text → count_of 40 text ≡ count_of 41 text
@@ -175,6 +177,7 @@ unfolding pieces_from
 pieces_joined place [] = refl
 pieces_joined place (t ∷ ts) =
     elim (cases_Bool (is_cut place t)) [
-      | inl e ↦ ap joined (cond-true _ _ _ e) ∙ joined-cut (pieces_from Outside ts) (full Outside ts) ∙ ap (λ (u : Lexeme). u ∷ joined (pieces_from Outside ts)) (sym (mark_is 44 t (cut_is_comma place t e))) ∙ ap (λ (us : List Lexeme). t ∷ us) (pieces_joined Outside ts)
+      | inl e ↦ ap joined (cond-true _ _ _ e) ∙ joined-cut (pieces_from Outside ts) (full Outside ts)
+          ∙ ap (λ (u : Lexeme). u ∷ joined (pieces_from Outside ts)) (sym (mark_is 44 t (cut_is_comma place t e))) ∙ ap (λ (us : List Lexeme). t ∷ us) (pieces_joined Outside ts)
       | inr e ↦ ap joined (cond-false _ _ _ e) ∙ joined-in_first t (pieces_from (place_after place t) ts) ∙ ap (λ (us : List Lexeme). t ∷ us) (pieces_joined (place_after place t) ts)
     ]

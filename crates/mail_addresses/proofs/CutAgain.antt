@@ -99,9 +99,12 @@ mailbox_outside ts a (inl (gives, unnamed)) =
     (gives_lacks 60 ts a (λ z. absurd (omega (arith, z))) (λ z. absurd (omega (arith, z))) gives)
     (gives_lacks 58 ts a (λ z. absurd (omega (arith, z))) (λ z. absurd (omega (arith, z))) gives)
 mailbox_outside ts a (inr (front, (back, whole, is))) =
-    let name = outside front (display_lacks 44 front a.name (λ z. absurd (omega (arith, z))) is.named) (display_lacks 60 front a.name (λ z. absurd (omega (arith, z))) is.named) (display_lacks 58 front a.name (λ z. absurd (omega (arith, z))) is.named) in
+    let name = outside front (display_lacks 44 front a.name (λ z. absurd (omega (arith, z))) is.named)
+    (display_lacks 60 front a.name (λ z. absurd (omega (arith, z))) is.named) (display_lacks 58 front a.name (λ z. absurd (omega (arith, z))) is.named) in
     let inside = brackets is.inside (gives_lacks 62 is.inside a (λ z. absurd (omega (arith, z))) (λ z. absurd (omega (arith, z))) is.gives_spec) in
-    let rest : Leads Brackets Outside back = subst (Leads Brackets Outside) (sym is.whole) (leads_mark Brackets Brackets Outside Outside 62 is.inside is.after inside (one_mark Brackets Outside 62 refl refl) (gaps_outside is.after is.gaps_after)) in
+    let rest : Leads Brackets Outside back =
+    subst (Leads Brackets Outside) (sym is.whole)
+    (leads_mark Brackets Brackets Outside Outside 62 is.inside is.after inside (one_mark Brackets Outside 62 refl refl) (gaps_outside is.after is.gaps_after)) in
     subst (Leads Outside Outside) (sym whole) (leads_mark Outside Outside Brackets Outside 60 front back name (one_mark Outside Brackets 60 refl refl) rest)
 
 mailbox_group : (ts : List Lexeme) (a : Address) → IsMailbox ts a → Leads Group Group ts
@@ -112,7 +115,9 @@ mailbox_group ts a (inl (gives, unnamed)) =
 mailbox_group ts a (inr (front, (back, whole, is))) =
     let name = group front (display_lacks 60 front a.name (λ z. absurd (omega (arith, z))) is.named) (display_lacks 59 front a.name (λ z. absurd (omega (arith, z))) is.named) in
     let inside = group_brackets is.inside (gives_lacks 62 is.inside a (λ z. absurd (omega (arith, z))) (λ z. absurd (omega (arith, z))) is.gives_spec) in
-    let rest : Leads GroupBrackets Group back = subst (Leads GroupBrackets Group) (sym is.whole) (leads_mark GroupBrackets GroupBrackets Group Group 62 is.inside is.after inside (one_mark GroupBrackets Group 62 refl refl) (gaps_group is.after is.gaps_after)) in
+    let rest : Leads GroupBrackets Group back =
+    subst (Leads GroupBrackets Group) (sym is.whole)
+    (leads_mark GroupBrackets GroupBrackets Group Group 62 is.inside is.after inside (one_mark GroupBrackets Group 62 refl refl) (gaps_group is.after is.gaps_after)) in
     subst (Leads Group Group) (sym whole) (leads_mark Group Group GroupBrackets Group 60 front back name (one_mark Group GroupBrackets 60 refl refl) rest)
 
 member_group : (ts : List Lexeme) (list : List Address) → Gives SpellsMailbox ts list → Leads Group Group ts
@@ -123,13 +128,16 @@ members_group : (list : List (List Lexeme)) (all : List Address) → Lists Spell
 members_group [] all lists = leads_none Group
 members_group (piece ∷ []) all lists = member_group piece lists.0 lists.1.2
 members_group (piece ∷ other ∷ pieces) all lists =
-    leads_mark Group Group Group Group 44 piece (joined (other ∷ pieces)) (member_group piece lists.0 lists.1.2) (one_mark Group Group 44 refl refl) (members_group (other ∷ pieces) lists.1.0 lists.1.3)
+    leads_mark Group Group Group Group 44 piece (joined (other ∷ pieces)) (member_group piece lists.0 lists.1.2) (one_mark Group Group 44 refl refl)
+    (members_group (other ∷ pieces) lists.1.0 lists.1.3)
 
 group_outside : (ts : List Lexeme) (list : List Address) → SpellsGroup ts list → Leads Outside Outside ts
 group_outside ts list (front, (back, whole, is)) =
-    let name = outside front (display_lacks 44 front is.name (λ z. absurd (omega (arith, z))) is.named) (display_lacks 60 front is.name (λ z. absurd (omega (arith, z))) is.named) (display_lacks 58 front is.name (λ z. absurd (omega (arith, z))) is.named) in
+    let name = outside front (display_lacks 44 front is.name (λ z. absurd (omega (arith, z))) is.named)
+    (display_lacks 60 front is.name (λ z. absurd (omega (arith, z))) is.named) (display_lacks 58 front is.name (λ z. absurd (omega (arith, z))) is.named) in
     let inside : Leads Group Group is.inside = subst (Leads Group Group) (pieces_joined Outside is.inside) (members_group (pieces is.inside) list is.lists) in
-    let rest : Leads Group Outside back = subst (Leads Group Outside) (sym is.whole) (leads_mark Group Group Outside Outside 59 is.inside is.after inside (one_mark Group Outside 59 refl refl) (gaps_outside is.after is.gaps_after)) in
+    let rest : Leads Group Outside back = subst (Leads Group Outside) (sym is.whole)
+    (leads_mark Group Group Outside Outside 59 is.inside is.after inside (one_mark Group Outside 59 refl refl) (gaps_outside is.after is.gaps_after)) in
     subst (Leads Outside Outside) (sym whole) (leads_mark Outside Outside Group Outside 58 front back name (one_mark Outside Group 58 refl refl) rest)
 
 piece_outside : (piece : List Lexeme) (list : List Address) → Gives Spells piece list → Leads Outside Outside piece

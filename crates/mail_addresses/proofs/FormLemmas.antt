@@ -66,14 +66,16 @@ pub domain_lacks : (c : ℕ) (ts : List Lexeme) → c ≢ 46 → is_domain ts �
 domain_lacks c ts n h = elim (or_cases _ _ h) [ inl a ↦ dot_atom_lacks c ts n a | inr b ↦ one_lacks is_domain_literal c (literal_no_mark c) ts b ]
 
 -- a spec with this `@` is the parts beside it
-pub spec_at : (ts local domain : List Lexeme) (n : ℕ) → ts ≡ local ++ mark 64 ∷ domain → list_any (is_mark 64) local ≡ false → IsSpec ts n → (is_local_part local ≡ true) × (is_domain domain ≡ true) × (n ≡ length (texts local))
+pub spec_at : (ts local domain : List Lexeme) (n : ℕ) → ts ≡ local ++ mark 64 ∷ domain → list_any (is_mark 64) local ≡ false → IsSpec ts n
+    → (is_local_part local ≡ true) × (is_domain domain ≡ true) × (n ≡ length (texts local))
 spec_at ts local domain n e lacks (inl (h, count)) = absurd (both_ways _ (local_lacks 64 ts (λ z. absurd (omega (arith, z))) h) (has_mark ts local domain e))
   where
     has_mark : (ts local domain : List Lexeme) → ts ≡ local ++ mark 64 ∷ domain → list_any (is_mark 64) ts ≡ true
     has_mark ts [] domain e = ap (list_any (is_mark 64)) e
     has_mark ts (x ∷ xs) domain e = ap (list_any (is_mark 64)) e ∙ or_right _ _ (has_mark (xs ++ mark 64 ∷ domain) xs domain refl)
 spec_at ts local domain n e lacks (inr at) =
-    let parts = split_unique (is_mark 64) local at.local domain at.domain (mark 64) (mark 64) lacks (local_lacks 64 at.local (λ z. absurd (omega (arith, z))) at.is_local) refl refl (sym e ∙ at.whole) in
+    let parts = split_unique (is_mark 64) local at.local domain at.domain (mark 64) (mark 64) lacks
+    (local_lacks 64 at.local (λ z. absurd (omega (arith, z))) at.is_local) refl refl (sym e ∙ at.whole) in
     (subst (λ xs. is_local_part xs ≡ true) (sym parts.0) at.is_local, subst (λ xs. is_domain xs ≡ true) (sym parts.1) at.has_domain, at.count ∙ ap (λ xs. length (texts xs)) (sym parts.0))
 
 atom_solid : (t : Lexeme) → is_atom t ≡ true → is_solid t ≡ true
@@ -173,7 +175,8 @@ pub record IsRun (run after : List Lexeme) (a : Address) : Type 0 where
 pub spec_is_run : (ts front run after : List Lexeme) (a : Address) → IsCut ts front run after → GivesSpec ts a → IsRun run after a
 spec_is_run ts front run after a cut gives =
     let solid = spec_solid gives.spec a.local gives.is_spec in
-    let inner = (front_unique is_gap front gives.before (run ++ after) (gives.spec ++ gives.after) cut.gaps gives.gaps_before cut.starts (begins_solid gives.spec gives.after solid) (sym cut.whole ∙ gives.whole)).1 in
+    let inner = (front_unique is_gap front gives.before (run ++ after) (gives.spec ++ gives.after) cut.gaps gives.gaps_before cut.starts
+    (begins_solid gives.spec gives.after solid) (sym cut.whole ∙ gives.whole)).1 in
     let parts = front_unique is_solid run gives.spec after gives.after cut.solid solid.all cut.ends (ends_solid gives.after gives.gaps_after) inner in
     record {
       gaps_after = ap (list_all is_gap) parts.1 ∙ gives.gaps_after;
@@ -194,7 +197,8 @@ run_is_spec ts front run after a cut is = record {
   text = is.text;
 }
 
-pub is_cut : (ts front rest run after : List Lexeme) → ts ≡ front ++ rest → rest ≡ run ++ after → list_all is_gap front ≡ true → begins is_gap rest ≡ false → list_all is_solid run ≡ true → begins is_solid after ≡ false → IsCut ts front run after
+pub is_cut : (ts front rest run after : List Lexeme) → ts ≡ front ++ rest → rest ≡ run ++ after → list_all is_gap front ≡ true
+    → begins is_gap rest ≡ false → list_all is_solid run ≡ true → begins is_solid after ≡ false → IsCut ts front run after
 is_cut ts front rest run after e f gaps starts solid ends = record {
   whole = e ∙ ap (λ (us : List Lexeme). front ++ us) f;
   gaps = gaps;

@@ -36,7 +36,8 @@ pieces_lack c n place [] h = refl
 pieces_lack c n place (t ∷ ts) h =
     elim (cases_Bool (is_cut place t)) [
       | inl e ↦ let list = subst (AllLack c) (cond-true _ _ _ e) h in or_from _ _ (one_mark c 44 t n (cut_is_comma place t e)) (pieces_lack c n Outside ts list.1)
-      | inr e ↦ let list = in_first_lacks c t (pieces_from (place_after place t) ts) (subst (AllLack c) (cond-false _ _ _ e) h) in or_from _ _ list.here (pieces_lack c n (place_after place t) ts list.others)
+      | inr e ↦ let list = in_first_lacks c t (pieces_from (place_after place t) ts) (subst (AllLack c) (cond-false _ _ _ e) h) in
+          or_from _ _ list.here (pieces_lack c n (place_after place t) ts list.others)
     ]
 
 -- addresses and blanks have no `;`
@@ -90,7 +91,8 @@ pub no_group : (piece : List Lexeme) (list : List Address) → Lacks 58 piece �
 no_group piece list lacks (first, (rest, whole, is)) = both_ways _ lacks (ap (list_any (is_mark 58)) whole ∙ has_mark 58 first rest)
 
 -- an answer for one form of list is an answer for another
-pub added : {E : Type 0} (keep : Keep) (r : Result Bool E) (old new : List Address) (Said Form : List Address → Type 0) → ((list : List Address) → Said list → Form list) → ((list : List Address) → Form list → Said list)
+pub added : {E : Type 0} (keep : Keep) (r : Result Bool E) (old new : List Address) (Said Form : List Address → Type 0)
+    → ((list : List Address) → Said list → Form list) → ((list : List Address) → Form list → Said list)
     → IfOk r (λ good. MatchBool good ((list : List Address) × (new ≡ kept keep old list) × Said list) ((list : List Address) → Said list → ⊥))
     → IfOk r (λ good. MatchBool good ((list : List Address) × (new ≡ kept keep old list) × Form list) ((list : List Address) → Form list → ⊥))
 added keep (Err e) old new Said Form f g h = tt

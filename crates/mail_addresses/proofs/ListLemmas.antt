@@ -13,7 +13,8 @@ empty_front [] ys e = refl
 empty_front (x ∷ xs) ys e = absurd (cc)
 
 -- at the first element that passes
-pub split_unique : {A : Type 0} (p : A → Bool) (xs ys r q : List A) (m n : A) → list_any p xs ≡ false → list_any p ys ≡ false → p m ≡ true → p n ≡ true → xs ++ m ∷ r ≡ ys ++ n ∷ q → (xs ≡ ys) × (r ≡ q)
+pub split_unique : {A : Type 0} (p : A → Bool) (xs ys r q : List A) (m n : A) → list_any p xs ≡ false → list_any p ys ≡ false → p m ≡ true
+    → p n ≡ true → xs ++ m ∷ r ≡ ys ++ n ∷ q → (xs ≡ ys) × (r ≡ q)
 split_unique p [] [] r q m n a b c d e = (refl, cc)
 split_unique p [] (y ∷ ys) r q m n a b c d e = let h : m ≡ y = cc in absurd (both_ways (p y) (or_parts _ _ b).0 (sym (ap p h) ∙ c))
 split_unique p (x ∷ xs) [] r q m n a b c d e = let h : x ≡ n = cc in absurd (both_ways (p x) (or_parts _ _ a).0 (ap p h ∙ d))
@@ -38,7 +39,8 @@ front_unique p (x ∷ xs) (y ∷ ys) r q a b c d e =
 pub cut_here : {A : Type 0} (xs front back : List A) (m : A) (k : ℕ) → xs ≡ front ++ m ∷ back → k ≡ length front → (k < length xs) × (take k xs ≡ front) × (drop (k + 1) xs ≡ back)
 cut_here xs front back m k e h =
     let longer : length xs ≡ length front + suc (length back) = ap length e ∙ length-append front (m ∷ back) in
-    let back_is : drop (k + 1) (front ++ m ∷ back) ≡ back = ap (drop (k + 1)) (sym (append_assoc front (m ∷ []) back)) ∙ drop_at (front ++ m ∷ []) back (k + 1) (omega (arith, length-append front (m ∷ []))) in
+    let back_is : drop (k + 1) (front ++ m ∷ back) ≡ back =
+    ap (drop (k + 1)) (sym (append_assoc front (m ∷ []) back)) ∙ drop_at (front ++ m ∷ []) back (k + 1) (omega (arith, length-append front (m ∷ []))) in
     (omega arith, ap (take k) e ∙ take_at front (m ∷ back) k (sym h), ap (drop (k + 1)) e ∙ back_is)
 
 -- no element of a front passes

@@ -15,7 +15,8 @@ Form = List Lexeme → List Address → Type 0
 pub lists_last : (S : Form) (list : List (List Lexeme)) (piece : List Lexeme) (here : List Address) → list ≡ piece ∷ [] → Gives S piece here → Lists S list here
 lists_last S list piece here e gives = subst (λ (ps : List (List Lexeme)). Lists S ps here) (sym e) (here, ([], sym (append-nil here), gives, refl))
 
-pub lists_more : (S : Form) (list rest : List (List Lexeme)) (piece : List Lexeme) (here later : List Address) → list ≡ piece ∷ rest → Gives S piece here → Lists S rest later → Lists S list (here ++ later)
+pub lists_more : (S : Form) (list rest : List (List Lexeme)) (piece : List Lexeme) (here later : List Address) → list ≡ piece ∷ rest
+    → Gives S piece here → Lists S rest later → Lists S list (here ++ later)
 lists_more S list rest piece here later e gives lists = subst (λ (ps : List (List Lexeme)). Lists S ps (here ++ later)) (sym e) (here, (later, refl, gives, lists))
 
 -- the lists of the whole, once a piece more is read

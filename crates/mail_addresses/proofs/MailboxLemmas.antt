@@ -74,7 +74,8 @@ pub record InBrackets (front inside after : List Lexeme) (a : Address) : Type 0 
 
 pub angled_parts : (front back inside after : List Lexeme) (a : Address) → back ≡ inside ++ mark 62 ∷ after → Lacks 62 inside → IsAngled front back a → InBrackets front inside after a
 angled_parts front back inside after a e lacks is =
-    let parts = split_unique (is_mark 62) inside is.inside after is.after (mark 62) (mark 62) lacks (gives_lacks 62 is.inside a (λ z. absurd (omega (arith, z))) (λ z. absurd (omega (arith, z))) is.gives_spec) refl refl (sym e ∙ is.whole) in
+    let parts = split_unique (is_mark 62) inside is.inside after is.after (mark 62) (mark 62) lacks
+    (gives_lacks 62 is.inside a (λ z. absurd (omega (arith, z))) (λ z. absurd (omega (arith, z))) is.gives_spec) refl refl (sym e ∙ is.whole) in
     record {
       named = is.named;
       gives_spec = subst (λ (ts : List Lexeme). GivesSpec ts a) (sym parts.0) is.gives_spec;

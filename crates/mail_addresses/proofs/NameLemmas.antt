@@ -56,7 +56,8 @@ pub taken-last : (pair after : List ℕ) → pair ≡ 92 ∷ after → length pa
 taken-last pair [] is short = ap (unescaped false) is ∙ unescaped-last
 taken-last pair (b ∷ bs) is short = absurd (omega (arith, ap (λ (l : List ℕ). length l) is))
 
-pub taken-pair : (out more pair after : List ℕ) → pair ≡ 92 ∷ after → 2 ≤ length pair → more ≡ out ++ get_or pair 1 0 ∷ [] → more ++ unescaped false (take (length pair - 2) (drop 2 pair)) ≡ out ++ unescaped false pair
+pub taken-pair : (out more pair after : List ℕ) → pair ≡ 92 ∷ after → 2 ≤ length pair → more ≡ out ++ get_or pair 1 0 ∷ []
+    → more ++ unescaped false (take (length pair - 2) (drop 2 pair)) ≡ out ++ unescaped false pair
 taken-pair out more pair [] is long put = absurd (omega (arith, ap (λ (l : List ℕ). length l) is))
 taken-pair out more pair (b ∷ bs) is long put =
     let count : length (92 ∷ b ∷ bs) - 2 ≡ length bs = omega arith in
@@ -98,7 +99,8 @@ pub name_from-gap : (begun apart : Bool) (t : Lexeme) (ts : List Lexeme) → is_
 unfolding name_from
 name_from-gap begun apart t ts g = cond-true _ _ _ g
 
-pub name_from-part : (begun apart : Bool) (t : Lexeme) (ts : List Lexeme) → is_gap t ≡ false → is_part t ≡ true → name_from begun apart (t ∷ ts) ≡ after (spaced apart (part_text t)) (name_from true false ts)
+pub name_from-part : (begun apart : Bool) (t : Lexeme) (ts : List Lexeme) → is_gap t ≡ false → is_part t ≡ true
+    → name_from begun apart (t ∷ ts) ≡ after (spaced apart (part_text t)) (name_from true false ts)
 unfolding name_from
 name_from-part begun apart t ts g p = cond-false _ _ _ g ∙ cond-true _ _ _ p
 
@@ -137,7 +139,8 @@ name_read : {ts : List Lexeme} {text : List ℕ} → IsName ts text → (begun a
 name_read (one {t} p) begun apart gs h =
     name_from-part begun apart t gs (part_no_gap t p) p ∙ ap (after (spaced apart (part_text t))) (only_gaps true false gs h) ∙ ap (λ (x : List ℕ). Some x) (append-nil (spaced apart (part_text t)))
 name_read (beside {t} {ts} {text} p rest) begun apart gs h =
-    name_from-part begun apart t (ts ++ gs) (part_no_gap t p) p ∙ ap (after (spaced apart (part_text t))) (name_read rest true false gs h) ∙ ap (λ (x : List ℕ). Some x) (spaced-append apart (part_text t) text)
+    name_from-part begun apart t (ts ++ gs) (part_no_gap t p) p ∙ ap (after (spaced apart (part_text t))) (name_read rest true false gs h)
+    ∙ ap (λ (x : List ℕ). Some x) (spaced-append apart (part_text t) text)
 name_read (IsName.apart {t} {ts} {text} gaps p n g rest) begun apart gs h =
     name_from-part begun apart t ((gaps ++ ts) ++ gs) (part_no_gap t p) p
     ∙ ap (λ (us : List Lexeme). after (spaced apart (part_text t)) (name_from true false us)) (append_assoc gaps ts gs)
@@ -189,7 +192,8 @@ from_part t ts text p (inr more) = go more.gaps refl
       last = more.last;
       whole = ap (λ (us : List Lexeme). t ∷ us) (more.whole ∙ ap (λ (us : List Lexeme). us ++ (more.name ++ more.last)) e);
       gaps_after = more.gaps_after;
-      is_name = subst (λ (x : List ℕ). IsName (t ∷ more.name) (part_text t ++ x)) (sym (more.is_text ∙ ap (λ (us : List Lexeme). spaced (false || not (is_nil us)) more.added) e)) (beside p more.is_name);
+      is_name = subst (λ (x : List ℕ). IsName (t ∷ more.name) (part_text t ++ x))
+          (sym (more.is_text ∙ ap (λ (us : List Lexeme). spaced (false || not (is_nil us)) more.added) e)) (beside p more.is_name);
     }
     go (g ∷ gs) e = record {
       name = t ∷ ((g ∷ gs) ++ more.name);

@@ -37,7 +37,8 @@ with_front-nil place ts = let l = full place ts in ap (with_front []) l.whole �
 
 pub with_front-in_first : (front : List Lexeme) (t : Lexeme) (list : List (List Lexeme)) → IsFull list → with_front front (in_first t list) ≡ with_front (front ++ t ∷ []) list
 with_front-in_first front t list l =
-    ap (λ (m : List (List Lexeme)). with_front front (in_first t m)) l.whole ∙ ap (λ (p : List Lexeme). p ∷ l.others) (sym (append_assoc front (t ∷ []) l.first)) ∙ ap (with_front (front ++ t ∷ [])) (sym l.whole)
+    ap (λ (m : List (List Lexeme)). with_front front (in_first t m)) l.whole
+    ∙ ap (λ (p : List Lexeme). p ∷ l.others) (sym (append_assoc front (t ∷ []) l.first)) ∙ ap (with_front (front ++ t ∷ [])) (sym l.whole)
 
 pub cut_is_comma : (place : Place) (t : Lexeme) → is_cut place t ≡ true → is_mark 44 t ≡ true
 cut_is_comma Outside t h = h

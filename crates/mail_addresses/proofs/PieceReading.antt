@@ -44,7 +44,8 @@ piece_more value piece more place next rest after t h e is plain n m =
     subst (λ (ts : List Lexeme). IsPieceFront value ts next after) (sym m) one
 
 -- a token that cuts ends the piece
-pub piece_cut : (value : List ℕ) (piece : List Lexeme) (place : Place) (rest after : List ℕ) (t : Lexeme) → IsPieceFront value piece place rest → rest ≡ text_of t ++ after → IsToken t after → is_cut place t ≡ true → IsPieceBefore value piece after
+pub piece_cut : (value : List ℕ) (piece : List Lexeme) (place : Place) (rest after : List ℕ) (t : Lexeme) → IsPieceFront value piece place rest
+    → rest ≡ text_of t ++ after → IsToken t after → is_cut place t ≡ true → IsPieceBefore value piece after
 unfolding pieces_from
 piece_cut value piece place rest after t h e is cuts =
     let comma : t ≡ mark 44 = mark_is 44 t (cut_is_comma place t cuts) in
@@ -87,7 +88,8 @@ IsRead value rest added number = (left : List Lexeme) → AreTokens rest left �
 pub read_none : (value : List ℕ) → IsRead value value [] 0
 read_none value left are = record { tokens = left; are_tokens = are; lists = λ later l. l; bad = λ at b. subst (IsFirstBad (pieces left)) (omega arith) b }
 
-pub read_more : (value rest after : List ℕ) (piece : List Lexeme) (added here : List Address) (number : ℕ) → IsRead value rest added number → IsPieceBefore rest piece after → Gives Spells piece here → IsRead value after (added ++ here) (number + 1)
+pub read_more : (value rest after : List ℕ) (piece : List Lexeme) (added here : List Address) (number : ℕ) → IsRead value rest added number
+    → IsPieceBefore rest piece after → Gives Spells piece here → IsRead value after (added ++ here) (number + 1)
 read_more value rest after piece added here number so_far cut gives left are =
     let w = so_far (piece ++ mark 44 ∷ left) (cut.are_tokens left are) in
     record {
@@ -97,7 +99,8 @@ read_more value rest after piece added here number so_far cut gives left are =
       bad = λ at b. bad_step (pieces w.tokens) (pieces (piece ++ mark 44 ∷ left)) (pieces left) piece here number (cut.cut left) gives w.bad at b;
     }
 
-bad_before : (value rest after : List ℕ) (piece : List Lexeme) (added : List Address) (number : ℕ) → IsRead value rest added number → IsPieceBefore rest piece after → IsBad piece → IsFault value number
+bad_before : (value rest after : List ℕ) (piece : List Lexeme) (added : List Address) (number : ℕ) → IsRead value rest added number
+    → IsPieceBefore rest piece after → IsBad piece → IsFault value number
 bad_before value rest after piece added number so_far cut bad =
     let left = tokens_of after in
     let w = so_far (piece ++ mark 44 ∷ left.0) (cut.are_tokens left.0 left.1) in
@@ -117,11 +120,13 @@ bad_last value rest piece added number so_far last bad =
     }
 
 -- the piece is bad, whether a comma cuts it off or not
-pub bad_piece_at : (value rest : List ℕ) (piece : List Lexeme) (after : Option (Bor (List ℕ))) (added : List Address) (number : ℕ) → IsRead value rest added number → MatchOption after (IsLastPiece rest piece) (λ later. IsPieceBefore rest piece later.now) → IsBad piece → IsFault value number
+pub bad_piece_at : (value rest : List ℕ) (piece : List Lexeme) (after : Option (Bor (List ℕ))) (added : List Address) (number : ℕ)
+    → IsRead value rest added number → MatchOption after (IsLastPiece rest piece) (λ later. IsPieceBefore rest piece later.now) → IsBad piece → IsFault value number
 bad_piece_at value rest piece None added number so_far last bad = bad_last value rest piece added number so_far last bad
 bad_piece_at value rest piece (Some later) added number so_far cut bad = bad_before value rest later.now piece added number so_far cut bad
 
-pub reads_last : (value rest : List ℕ) (piece : List Lexeme) (added here : List Address) (number : ℕ) → IsRead value rest added number → IsLastPiece rest piece → Gives Spells piece here → Reads value (added ++ here)
+pub reads_last : (value rest : List ℕ) (piece : List Lexeme) (added here : List Address) (number : ℕ) → IsRead value rest added number
+    → IsLastPiece rest piece → Gives Spells piece here → Reads value (added ++ here)
 reads_last value rest piece added here number so_far last gives =
     let w = so_far piece last.are_tokens in
     record {

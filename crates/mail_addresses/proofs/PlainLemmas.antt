@@ -67,7 +67,8 @@ dots_last bytes run after h = (atom run ∷ [], front_one bytes after (atom run)
 pub dots_more : (bytes run after later last : List ℕ) → IsAtomFront bytes run after → after ≡ 46 ∷ later → HasDots later last → HasDots bytes last
 unfolding is_dot_atom
 dots_more bytes run after later last h e (ts, front, dots) =
-    let behind : AreFront after last (mark 46 ∷ ts) = subst (λ (xs : List ℕ). AreFront xs last (mark 46 ∷ ts)) (sym e) (front_append (46 ∷ later) later last (mark 46 ∷ []) ts (dot_front later) front) in
+    let behind : AreFront after last (mark 46 ∷ ts) =
+    subst (λ (xs : List ℕ). AreFront xs last (mark 46 ∷ ts)) (sym e) (front_append (46 ∷ later) later last (mark 46 ∷ []) ts (dot_front later) front) in
     (atom run ∷ mark 46 ∷ ts, front_append bytes after last (atom run ∷ []) (mark 46 ∷ ts) (front_one bytes after (atom run) h.joined h.is_run) behind, dots)
 
 -- ---- specs
@@ -82,7 +83,8 @@ spec_local bytes after n (ts, front, dots) e = (ts, front, inl (or_left _ _ dots
 
 pub spec_domain : (bytes after domain last : List ℕ) (n : ℕ) → HasDots bytes after → after ≡ 64 ∷ domain → HasDots domain last → n ≡ length bytes - length after → HasSpec bytes n last
 spec_domain bytes after domain last n (ts, front, dots) e (us, behind, later) k =
-    let joined : AreFront after last (mark 64 ∷ us) = subst (λ (xs : List ℕ). AreFront xs last (mark 64 ∷ us)) (sym e) (front_append (64 ∷ domain) domain last (mark 64 ∷ []) us (at_front domain) behind) in (
+    let joined : AreFront after last (mark 64 ∷ us) =
+    subst (λ (xs : List ℕ). AreFront xs last (mark 64 ∷ us)) (sym e) (front_append (64 ∷ domain) domain last (mark 64 ∷ []) us (at_front domain) behind) in (
       ts ++ mark 64 ∷ us,
       front_append bytes after last ts (mark 64 ∷ us) front joined,
       inr record {
@@ -139,12 +141,15 @@ reads_spec value after n a (ts, front, is) e name spec local =
     reads_one value ts a whole (inl (whole_gives ts n a is local (spec ∙ whole.joined ∙ append-nil (texts ts)), name))
 
 -- a value that is a name and a spec in angle brackets
-pub reads_angled : (value back last after : List ℕ) (n : ℕ) (a : Address) → HasName value a.name back → HasSpec back n last → last ≡ 62 ∷ after → after ≡ [] → a.spec ≡ take (length back - length last) back → a.local ≡ n → Reads value (a ∷ [])
+pub reads_angled : (value back last after : List ℕ) (n : ℕ) (a : Address) → HasName value a.name back → HasSpec back n last → last ≡ 62 ∷ after
+    → after ≡ [] → a.spec ≡ take (length back - length last) back → a.local ≡ n → Reads value (a ∷ [])
 reads_angled value back last after n a (fs, named_front, named) (ts, front, is) e none spec local =
     let closed : last ≡ 62 ∷ [] = e ∙ ap (λ (xs : List ℕ). 62 ∷ xs) none in
     let close : AreFront last [] (mark 62 ∷ []) = subst (λ (xs : List ℕ). AreFront xs [] (mark 62 ∷ [])) (sym closed) (close_front []) in
-    let inside : AreFront (60 ∷ back) [] (mark 60 ∷ (ts ++ mark 62 ∷ [])) = front_append (60 ∷ back) back [] (mark 60 ∷ []) (ts ++ mark 62 ∷ []) (open_front back) (front_append back last [] ts (mark 62 ∷ []) front close) in
-    let text : take (length back - length last) back ≡ texts ts = ap (take (length back - length last)) front.joined ∙ take_at (texts ts) last (length back - length last) (sym (front_length back last ts front)) in
+    let inside : AreFront (60 ∷ back) [] (mark 60 ∷ (ts ++ mark 62 ∷ [])) =
+    front_append (60 ∷ back) back [] (mark 60 ∷ []) (ts ++ mark 62 ∷ []) (open_front back) (front_append back last [] ts (mark 62 ∷ []) front close) in
+    let text : take (length back - length last) back ≡ texts ts =
+    ap (take (length back - length last)) front.joined ∙ take_at (texts ts) last (length back - length last) (sym (front_length back last ts front)) in
     reads_one value (fs ++ mark 60 ∷ (ts ++ mark 62 ∷ [])) a (front_append value (60 ∷ back) [] fs (mark 60 ∷ (ts ++ mark 62 ∷ [])) named_front inside)
     (inr (
       fs,
@@ -197,7 +202,8 @@ words_last bytes run after back h g = record {
 pub words_more : (bytes run after later text back : List ℕ) → IsAtomFront bytes run after → after ≡ 32 ∷ later → HasWords later text back → HasWords bytes (run ++ 32 ∷ text) back
 words_more bytes run after later text back h e w =
     let behind : AreFront after (60 ∷ back) (blanks (32 ∷ []) ∷ (w.words ++ w.gaps)) =
-    subst (λ (xs : List ℕ). AreFront xs (60 ∷ back) (blanks (32 ∷ []) ∷ (w.words ++ w.gaps))) (sym e) (front_append (32 ∷ later) later (60 ∷ back) (blanks (32 ∷ []) ∷ []) (w.words ++ w.gaps) (space_front later w.starts) w.front) in
+    subst (λ (xs : List ℕ). AreFront xs (60 ∷ back) (blanks (32 ∷ []) ∷ (w.words ++ w.gaps))) (sym e)
+    (front_append (32 ∷ later) later (60 ∷ back) (blanks (32 ∷ []) ∷ []) (w.words ++ w.gaps) (space_front later w.starts) w.front) in
     record {
       words = atom run ∷ blanks (32 ∷ []) ∷ w.words;
       gaps = w.gaps;
@@ -235,7 +241,8 @@ unfolding unescaped
 unescaped_plain [] none = refl
 unescaped_plain (b ∷ bs) none = cond-false _ _ _ (ne_eqb _ _ (none 0 (omega arith))) ∙ ap (λ (xs : List ℕ). b ∷ xs) (unescaped_plain bs (λ k l e. none (suc k) (omega arith) e))
 
-pub name_quoted : (inside content after back : List ℕ) → inside ≡ content ++ 34 ∷ after → IsQuotedContent content → unescaped false content ≡ content → HasGaps after back → HasName (34 ∷ inside) content back
+pub name_quoted : (inside content after back : List ℕ) → inside ≡ content ++ 34 ∷ after → IsQuotedContent content → unescaped false content ≡ content
+    → HasGaps after back → HasName (34 ∷ inside) content back
 name_quoted inside content after back e is plain g =
     let begin : 34 ∷ inside ≡ text_of (quoted content) ++ after = ap (λ (xs : List ℕ). 34 ∷ xs) (e ∙ sym (append_assoc content (34 ∷ []) after)) in (
       quoted content ∷ g.gaps,
@@ -251,7 +258,8 @@ name_quoted inside content after back e is plain g =
       },
     )
 
-pub atom_front_is : (bytes run after : List ℕ) (n : ℕ) → run ≡ take n bytes → after ≡ drop n bytes → list_all is_atom_byte (take n bytes) ≡ true → begins is_atom_byte (drop n bytes) ≡ false → (empty : Bool) → empty ≡ (length run == 0) → empty ≡ false → IsAtomFront bytes run after
+pub atom_front_is : (bytes run after : List ℕ) (n : ℕ) → run ≡ take n bytes → after ≡ drop n bytes → list_all is_atom_byte (take n bytes) ≡ true
+    → begins is_atom_byte (drop n bytes) ≡ false → (empty : Bool) → empty ≡ (length run == 0) → empty ≡ false → IsAtomFront bytes run after
 atom_front_is bytes run after n front back all ends empty is none = record {
   joined = sym (take-append-drop n bytes) ∙ ap (λ (xs : List ℕ). xs ++ drop n bytes) (sym front) ∙ ap (λ (xs : List ℕ). run ++ xs) (sym back);
   is_run = record {

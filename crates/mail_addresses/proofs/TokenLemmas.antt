@@ -70,12 +70,14 @@ unfolding texts
 stand_push [] t rest after h e is = (is, tt)
 stand_push (u ∷ ts) t rest after h e is =
     let more : texts ts ++ rest ≡ texts (ts ++ t ∷ []) ++ after =
-    ap (λ (xs : List ℕ). texts ts ++ xs) e ∙ sym (append_assoc (texts ts) (text_of t) after) ∙ ap (λ (xs : List ℕ). xs ++ after) (ap (λ (xs : List ℕ). texts ts ++ xs) (sym (texts-one t)) ∙ sym (texts-append ts (t ∷ []))) in
+    ap (λ (xs : List ℕ). texts ts ++ xs) e ∙ sym (append_assoc (texts ts) (text_of t) after)
+    ∙ ap (λ (xs : List ℕ). xs ++ after) (ap (λ (xs : List ℕ). texts ts ++ xs) (sym (texts-one t)) ∙ sym (texts-append ts (t ∷ []))) in
     (subst (IsToken u) more h.0, stand_push ts t rest after h.1 e is)
 
 pub joined_push : (ts : List Lexeme) (t : Lexeme) (value rest after : List ℕ) → texts ts ++ rest ≡ value → rest ≡ text_of t ++ after → texts (ts ++ t ∷ []) ++ after ≡ value
 joined_push ts t value rest after h e =
-    ap (λ (xs : List ℕ). xs ++ after) (texts-append ts (t ∷ []) ∙ ap (λ (xs : List ℕ). texts ts ++ xs) (texts-one t)) ∙ append_assoc (texts ts) (text_of t) after ∙ ap (λ (xs : List ℕ). texts ts ++ xs) (sym e) ∙ h
+    ap (λ (xs : List ℕ). xs ++ after) (texts-append ts (t ∷ []) ∙ ap (λ (xs : List ℕ). texts ts ++ xs) (texts-one t))
+    ∙ append_assoc (texts ts) (text_of t) after ∙ ap (λ (xs : List ℕ). texts ts ++ xs) (sym e) ∙ h
 
 never_nil : (text : List ℕ) → NeverCloses text → text ≢ []
 never_nil [] never e = elim never [ ]

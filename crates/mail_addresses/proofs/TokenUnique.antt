@@ -56,7 +56,8 @@ find_byte_found (b ∷ bs) n h =
       | inr e ↦ find_later b n bs (find_byte (λ c. c == 93) bs) (λ k is. find_byte_found bs k is) (sym (cond-false _ _ _ e) ∙ h) e
     ]
 
-enclosed_is : (make : List ℕ → Lexeme) (whole bs content rest : List ℕ) (last : ℕ) (end : Option ℕ) → bs ≡ content ++ last ∷ rest → end ≡ Some (length content) → enclosed make whole bs end ≡ step (make content) rest
+enclosed_is : (make : List ℕ → Lexeme) (whole bs content rest : List ℕ) (last : ℕ) (end : Option ℕ) → bs ≡ content ++ last ∷ rest
+    → end ≡ Some (length content) → enclosed make whole bs end ≡ step (make content) rest
 unfolding enclosed
 enclosed_is make whole bs content rest last end e h =
     let cut = cut_here bs content rest last (length content) e refl in
@@ -88,7 +89,8 @@ literal_step inside rest is =
     enclosed_is literal (91 ∷ bs) bs inside rest 93 (find_byte (λ c. c == 93) bs) e (ap (find_byte (λ c. c == 93)) e ∙ find_byte_at (λ c. c == 93) inside rest 93 is refl)
 
 -- a first byte that opens nothing
-plain_step : (b : ℕ) (bs : List ℕ) → b ≢ 40 → b ≢ 34 → b ≢ 91 → first_step (b ∷ bs) ≡ (if is_blank_byte b then run_step blanks is_blank_byte (b ∷ bs) else (if is_atom_byte b then run_step atom is_atom_byte (b ∷ bs) else step (mark b) bs))
+plain_step : (b : ℕ) (bs : List ℕ) → b ≢ 40 → b ≢ 34 → b ≢ 91
+    → first_step (b ∷ bs) ≡ (if is_blank_byte b then run_step blanks is_blank_byte (b ∷ bs) else (if is_atom_byte b then run_step atom is_atom_byte (b ∷ bs) else step (mark b) bs))
 unfolding first_step
 plain_step b bs p q r = cond-false _ _ _ (ne_eqb b 40 p) ∙ cond-false _ _ _ (ne_eqb b 34 q) ∙ cond-false _ _ _ (ne_eqb b 91 r)
 

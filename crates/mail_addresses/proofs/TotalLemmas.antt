@@ -95,7 +95,8 @@ literal_first : (bs : List ℕ) → First (91 ∷ bs)
 literal_first bs = let p = part stays bs in literal_ends bs p.front p.back p.whole p.all p.ends
 
 -- a byte that passes begins a run
-run_first : (p : ℕ → Bool) (make : List ℕ → Lexeme) → ((run : List ℕ) → text_of (make run) ≡ run) → ((run rest : List ℕ) → IsRun p run rest → IsToken (make run) rest) → (b : ℕ) (bs : List ℕ) → p b ≡ true → First (b ∷ bs)
+run_first : (p : ℕ → Bool) (make : List ℕ → Lexeme) → ((run : List ℕ) → text_of (make run) ≡ run)
+    → ((run rest : List ℕ) → IsRun p run rest → IsToken (make run) rest) → (b : ℕ) (bs : List ℕ) → p b ≡ true → First (b ∷ bs)
 run_first p make text token b bs e =
     let later = part p bs in
     record {
@@ -121,9 +122,11 @@ first_same b c bs e f = subst (λ (x : ℕ). First (x ∷ bs)) (sym e) f
 first_token : (b : ℕ) (bs : List ℕ) → First (b ∷ bs)
 first_token b bs =
     elim (cases_eq b 40) [
-      | inl e ↦ first_same b 40 bs e (enclosed_first IsCommentContent comment 40 41 (λ content. refl) (λ content rest is. is) bs (close false 0 0 bs) (λ never. comment_open never) (comment_is_end bs (close false 0 0 bs) refl))
+      | inl e ↦ first_same b 40 bs e (enclosed_first IsCommentContent comment 40 41 (λ content. refl) (λ content rest is. is) bs (close false 0 0 bs)
+          (λ never. comment_open never) (comment_is_end bs (close false 0 0 bs) refl))
       | inr p ↦ elim (cases_eq b 34) [
-        | inl e ↦ first_same b 34 bs e (enclosed_first IsQuotedContent quoted 34 34 (λ content. refl) (λ content rest is. is) bs (unquote false 0 bs) (λ never. quote_open never) (quote_is_end bs (unquote false 0 bs) refl))
+        | inl e ↦ first_same b 34 bs e (enclosed_first IsQuotedContent quoted 34 34 (λ content. refl) (λ content rest is. is) bs (unquote false 0 bs)
+            (λ never. quote_open never) (quote_is_end bs (unquote false 0 bs) refl))
         | inr q ↦ elim (cases_eq b 91) [
           | inl e ↦ first_same b 91 bs e (literal_first bs)
           | inr r ↦ plain_first b bs p q r
@@ -224,7 +227,8 @@ spec_or name ts =
     let cut : IsCut ts front.front run.front run.back = is_cut ts front.front front.back run.front run.back front.whole run.whole front.all front.ends run.all run.ends in
     elim (cases_Bool (list_all is_gap run.back)) [
       | inl gaps ↦ elim (is_spec_or run.front) [
-        | inl is ↦ let a : Address = record { name = name; spec = texts run.front; local = is.0 } in inl (a, (run_is_spec ts front.front run.front run.back a cut record { gaps_after = gaps; is_spec = is.1; text = refl }, refl))
+        | inl is ↦ let a : Address = record { name = name; spec = texts run.front; local = is.0 } in
+            inl (a, (run_is_spec ts front.front run.front run.back a cut record { gaps_after = gaps; is_spec = is.1; text = refl }, refl))
         | inr none ↦ inr (λ a gives. none a.local (spec_is_run ts front.front run.front run.back a cut gives).is_spec)
       ]
       | inr gaps ↦ inr (λ a gives. both_ways _ gaps (spec_is_run ts front.front run.front run.back a cut gives).gaps_after)

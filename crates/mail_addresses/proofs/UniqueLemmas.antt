@@ -101,7 +101,8 @@ gives_one S none unique piece p q (inr s) (inr t) = unique piece p q s t
 lists_one : (S : Form) → NoGaps S → Unique S → (list : List (List Lexeme)) (p q : List Address) → Lists S list p → Lists S list q → p ≡ q
 lists_one S none unique [] p q e f = e ∙ sym f
 lists_one S none unique (piece ∷ pieces) p q (here, (later, e, gives, rest)) (first, (others, f, given, left)) =
-    e ∙ ap (λ (xs : List Address). xs ++ later) (gives_one S none unique piece here first gives given) ∙ ap (λ (xs : List Address). first ++ xs) (lists_one S none unique pieces later others rest left) ∙ sym f
+    e ∙ ap (λ (xs : List Address). xs ++ later) (gives_one S none unique piece here first gives given)
+    ∙ ap (λ (xs : List Address). first ++ xs) (lists_one S none unique pieces later others rest left) ∙ sym f
 
 one_unique : Unique SpellsMailbox
 one_unique piece p q (a, e, is) (b, f, other) = e ∙ ap (λ (x : Address). x ∷ []) (mailbox_unique piece a b is other) ∙ sym f
@@ -114,7 +115,8 @@ group_unique piece p q (front, (back, whole, is)) other =
 
 one_or_group : (piece : List Lexeme) (p q : List Address) → SpellsMailbox piece p → SpellsGroup piece q → ⊥
 one_or_group piece p q (a, e, is) (front, (back, whole, grouped)) =
-    both_ways _ (mailbox_lacks 58 piece a (λ z. absurd (omega (arith, z))) (λ z. absurd (omega (arith, z))) (λ z. absurd (omega (arith, z))) (λ z. absurd (omega (arith, z))) is) (ap (list_any (is_mark 58)) whole ∙ has_mark 58 front back)
+    both_ways _ (mailbox_lacks 58 piece a (λ z. absurd (omega (arith, z))) (λ z. absurd (omega (arith, z))) (λ z. absurd (omega (arith, z)))
+    (λ z. absurd (omega (arith, z))) is) (ap (list_any (is_mark 58)) whole ∙ has_mark 58 front back)
 
 spells_unique : Unique Spells
 spells_unique piece p q (inl one) (inl other) = one_unique piece p q one other
@@ -152,7 +154,8 @@ spec_holds : (ts : List Lexeme) (n : ℕ) → IsSpec ts n → n ≤ length (text
 spec_holds ts n (inl (h, count)) = omega (arith, count)
 spec_holds ts n (inr at) =
     let longer : length (texts ts) ≡ length (texts at.local) + length (texts (mark 64 ∷ at.domain)) =
-    ap (λ (us : List Lexeme). length (texts us)) at.whole ∙ ap (λ (xs : List ℕ). length xs) (texts-append at.local (mark 64 ∷ at.domain)) ∙ length-append (texts at.local) (texts (mark 64 ∷ at.domain)) in
+    ap (λ (us : List Lexeme). length (texts us)) at.whole ∙ ap (λ (xs : List ℕ). length xs) (texts-append at.local (mark 64 ∷ at.domain))
+    ∙ length-append (texts at.local) (texts (mark 64 ∷ at.domain)) in
     omega (arith, at.count)
 
 gives_holds : (ts : List Lexeme) (a : Address) → GivesSpec ts a → IsInSpec a

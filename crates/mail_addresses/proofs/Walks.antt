@@ -140,7 +140,8 @@ pub lacks_from : (c : ℕ) (ts : List Lexeme) → list_all (is_other c) ts ≡ t
 lacks_from c [] h = refl
 lacks_from c (t ∷ ts) h = let both = and_parts _ _ h in or_from _ _ (not-true _ both.0) (lacks_from c ts both.1)
 
-pub mark_cut : (c : ℕ) (bytes rest after front : List ℕ) (t : Lexeme) → Walked (is_other c) bytes rest → rest ≡ text_of t ++ after → IsToken t after → is_mark c t ≡ true → front ≡ take (length bytes - length rest) bytes
+pub mark_cut : (c : ℕ) (bytes rest after front : List ℕ) (t : Lexeme) → Walked (is_other c) bytes rest → rest ≡ text_of t ++ after → IsToken t after
+    → is_mark c t ≡ true → front ≡ take (length bytes - length rest) bytes
     → IsCutAtMark c (tokens_in bytes) (tokens_in front) (tokens_in after)
 mark_cut c bytes rest after front t w e is found cut = (
   walked_cut (is_other c) bytes rest front w cut ∙ ap (λ (ts : List Lexeme). tokens_in front ++ ts) (in_more rest after t e is ∙ ap (λ (u : Lexeme). u ∷ tokens_in after) (mark_is c t found)),
@@ -197,11 +198,13 @@ pub dots_broken : (rest after later : List ℕ) (t u : Lexeme) → rest ≡ text
 dots_broken rest after later t u e is f is_u atom_first dot =
     ap is_dot_atom (two_in rest after later t u e is f is_u) ∙ two t u (tokens_in later) atom_first ∙ and_left _ _ dot
 
-pub only_one : (p : Lexeme → Bool) (rest after : List ℕ) (t : Lexeme) (empty : Bool) → rest ≡ text_of t ++ after → IsToken t after → empty ≡ (length after == 0) → empty ≡ true → is_one p (tokens_in rest) ≡ p t
+pub only_one : (p : Lexeme → Bool) (rest after : List ℕ) (t : Lexeme) (empty : Bool) → rest ≡ text_of t ++ after → IsToken t after
+    → empty ≡ (length after == 0) → empty ≡ true → is_one p (tokens_in rest) ≡ p t
 only_one p rest [] t empty e is same h = ap (is_one p) (in_more rest [] t e is ∙ ap (λ (ts : List Lexeme). t ∷ ts) (in_none [] refl))
 only_one p rest (b ∷ bs) t empty e is same h = absurd (false≢true (sym (ne_eqb (length (b ∷ bs)) 0 (λ z. absurd (omega (arith, z)))) ∙ sym same ∙ h))
 
-pub only_more : (p : Lexeme → Bool) (rest after : List ℕ) (t : Lexeme) (empty : Bool) → rest ≡ text_of t ++ after → IsToken t after → empty ≡ (length after == 0) → empty ≡ false → is_one p (tokens_in rest) ≡ false
+pub only_more : (p : Lexeme → Bool) (rest after : List ℕ) (t : Lexeme) (empty : Bool) → rest ≡ text_of t ++ after → IsToken t after
+    → empty ≡ (length after == 0) → empty ≡ false → is_one p (tokens_in rest) ≡ false
 only_more p rest [] t empty e is same h = absurd (false≢true (sym h ∙ same))
 only_more p rest (b ∷ bs) t empty e is same h =
     let some = some_in (b ∷ bs) (λ z. cc) in
@@ -219,7 +222,8 @@ pub no_spec : (ts : List Lexeme) (n : ℕ) → Lacks 64 ts → is_local_part ts 
 no_spec ts n lacks other (inl (h, count)) = both_ways _ other h
 no_spec ts n lacks other (inr at) = both_ways _ lacks (ap (list_any (is_mark 64)) at.whole ∙ has_mark 64 at.local at.domain)
 
-pub spec_domain : (bytes local domain : List ℕ) → IsCutAtMark 64 (tokens_in bytes) (tokens_in local) (tokens_in domain) → is_local_part (tokens_in local) ≡ true → is_domain (tokens_in domain) ≡ true → IsSpec (tokens_in bytes) (length local)
+pub spec_domain : (bytes local domain : List ℕ) → IsCutAtMark 64 (tokens_in bytes) (tokens_in local) (tokens_in domain)
+    → is_local_part (tokens_in local) ≡ true → is_domain (tokens_in domain) ≡ true → IsSpec (tokens_in bytes) (length local)
 spec_domain bytes local domain cut h k = inr (record {
   local = tokens_in local;
   domain = tokens_in domain;

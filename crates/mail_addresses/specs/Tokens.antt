@@ -6,7 +6,8 @@ use Rattle.mail_addresses.specs.Lexical.{Lexeme, blanks, comment, atom, quoted, 
 unfoldable pub close : Bool → ℕ → ℕ → List ℕ → Option ℕ
 close escaped depth i [] = None
 close true depth i (b ∷ bs) = close false depth (i + 1) bs
-close false depth i (b ∷ bs) = if b == 92 then close true depth (i + 1) bs else (if b == 40 then close false (depth + 1) (i + 1) bs else (if b == 41 then (if depth == 0 then Some i else close false (depth - 1) (i + 1) bs) else close false depth (i + 1) bs))
+close false depth i (b ∷ bs) = if b == 92 then close true depth (i + 1) bs else
+    (if b == 40 then close false (depth + 1) (i + 1) bs else (if b == 41 then (if depth == 0 then Some i else close false (depth - 1) (i + 1) bs) else close false depth (i + 1) bs))
 
 -- the place of the quote that closes a quoted string, after i bytes, after a backslash or not
 unfoldable pub unquote : Bool → ℕ → List ℕ → Option ℕ
@@ -47,7 +48,10 @@ run_step make p bs = step (make (take (count_while p bs) bs)) (drop (count_while
 -- the first token, computed
 unfoldable pub first_step : List ℕ → Step
 first_step [] = step (unclosed []) []
-first_step (b ∷ bs) = if b == 40 then enclosed comment (b ∷ bs) bs (close false 0 0 bs) else (if b == 34 then enclosed quoted (b ∷ bs) bs (unquote false 0 bs) else (if b == 91 then enclosed literal (b ∷ bs) bs (find_byte (λ c. c == 93) bs) else (if is_blank_byte b then run_step blanks is_blank_byte (b ∷ bs) else (if is_atom_byte b then run_step atom is_atom_byte (b ∷ bs) else step (mark b) bs))))
+first_step (b ∷ bs) = if b == 40 then enclosed comment (b ∷ bs) bs (close false 0 0 bs) else
+    (if b == 34 then enclosed quoted (b ∷ bs) bs (unquote false 0 bs) else
+    (if b == 91 then enclosed literal (b ∷ bs) bs (find_byte (λ c. c == 93) bs) else
+    (if is_blank_byte b then run_step blanks is_blank_byte (b ∷ bs) else (if is_atom_byte b then run_step atom is_atom_byte (b ∷ bs) else step (mark b) bs))))
 
 -- the tokens at the front, at most a given number
 unfoldable pub tokens_within : ℕ → List ℕ → List Lexeme

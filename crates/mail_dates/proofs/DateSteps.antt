@@ -32,7 +32,8 @@ not_one_zone : (day : ℤ) (t : Option ℕ) (parts : List Part) → zone_last pa
 not_one_zone day None parts h = refl
 not_one_zone day (Some seconds) parts h = rw h refl
 
-after_minute : (day : ℤ) (hour minute : List ℕ) (parts : List Part) → time (Some day) (Number hour ∷ Colon ∷ Number minute ∷ parts) ≡ (clock_end hour (minute, parts) (colon_first parts) >>= from_time day)
+after_minute : (day : ℤ) (hour minute : List ℕ) (parts : List Part)
+    → time (Some day) (Number hour ∷ Colon ∷ Number minute ∷ parts) ≡ (clock_end hour (minute, parts) (colon_first parts) >>= from_time day)
 unfolding time
 after_minute day hour minute [] = not_one_zone day (time_value hour minute (codes "00")) [] refl
 after_minute day hour minute (Colon ∷ []) = no_zone day (time_value hour minute (codes "00"))

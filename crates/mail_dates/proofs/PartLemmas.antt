@@ -352,7 +352,8 @@ colon_first-end text rest same end = rw (same, end, date_parts-nil) refl
 pub sign_missing : (text rest tail : List ℕ) (b : ℕ) → (date_parts text ≡ date_parts rest) × IsAtPart rest → rest ≡ b ∷ tail → is_sign b ≡ false → None ≡ signed_first (date_parts text)
 sign_missing text rest tail b at starts h = sym (rw (at.0, starts) (no_sign b tail (rw starts at at.1) h))
 
-pub digits_missing : (text rest tail : List ℕ) (b : ℕ) → date_parts text ≡ date_parts rest → rest ≡ b ∷ tail → is_sign b ≡ true → prefix_len is_ascii_digit tail ≡ 0 → None ≡ signed_first (date_parts text)
+pub digits_missing : (text rest tail : List ℕ) (b : ℕ) → date_parts text ≡ date_parts rest → rest ≡ b ∷ tail → is_sign b ≡ true
+    → prefix_len is_ascii_digit tail ≡ 0 → None ≡ signed_first (date_parts text)
 digits_missing text rest tail b same starts h none = sym (rw (same, starts) (sign_alone b tail h none))
 
 pub comma_missing : (text rest tail : List ℕ) (b : ℕ) → (date_parts text ≡ date_parts rest) × IsAtPart rest → rest ≡ b ∷ tail → b ≢ 44 → None ≡ comma_first (date_parts text)

@@ -40,7 +40,8 @@ parts_of_form : (name day month year hour minute second zone : List ℕ) (sign :
     ≡ Word name ∷ Comma ∷ Number day ∷ Word month ∷ Number year ∷ Number hour ∷ Colon ∷ Number minute ∷ Colon ∷ Number second ∷ Signed sign zone ∷ []
 parts_of_form name day month year hour minute second zone sign n d m y h mi s is z =
     simp append_assoc
-    (name_comma name _ _ n (number_space day _ _ d (word_space month _ _ m (number_space year _ _ y (number_colon hour _ _ h (number_colon minute _ _ mi (number_space second _ _ s (signed_at_end sign zone is z))))))))
+    (name_comma name _ _ n (number_space day _ _ d
+    (word_space month _ _ m (number_space year _ _ y (number_colon hour _ _ h (number_colon minute _ _ mi (number_space second _ _ s (signed_at_end sign zone is z))))))))
 
 -- each name of a day is a word, and reads as one
 pub day_is_word : (weekday : ℕ) → weekday < 7 → list_all is_ascii_alphabetic (day_name weekday) && nat_lt 0 (length (day_name weekday)) ≡ true
@@ -153,7 +154,8 @@ form_reads : (weekday day place year s : ℕ) (minutes : ℤ) (number : ℤ) →
 unfolding date_form calendar_form zone_text date_time date time moment_value
 form_reads weekday day place year s minutes number w d p some y t z exists =
     rw (parts_of_form (day_name weekday) (two day) (month_name (place + 1)) (four year) (two (s / 3600)) (two (s / 60 % 60)) (two (s % 60)) (zone_pair minutes) (zone_sign minutes)
-    (run_from_test is_ascii_alphabetic (day_name weekday) (day_is_word weekday w)) (run_of_two day d) (run_from_test is_ascii_alphabetic (month_name (place + 1)) (month_is_word place p)) (run_of_four year y)
+    (run_from_test is_ascii_alphabetic (day_name weekday) (day_is_word weekday w)) (run_of_two day d)
+    (run_from_test is_ascii_alphabetic (month_name (place + 1)) (month_is_word place p)) (run_of_four year y)
     (run_of_two (s / 3600) (omega arith)) (run_of_two (s / 60 % 60) (omega arith)) (run_of_two (s % 60) (omega arith)) (is_sign-zone minutes)
     (run_of_pair (unsigned_abs minutes / 60) (unsigned_abs minutes % 60) (omega arith) (omega arith)))
     (rw (day_reads weekday w, year_reads year some y, month_reads place p, day_of_month_reads day d, exists, time_reads s t, zone_reads minutes z) refl)

@@ -2,14 +2,16 @@
 //! number. Of words that are refused it prints the usage on the standard error.
 #![tactic(auto)]
 
-mod outside;
-
 use host_real::RealHost;
 use mail_delivery::{DeliverStatus, Environment, deliver};
 use mail_text::{Items, Memory};
+use process_env::{variables, waiting_time, words};
 use std::io::Eprint;
 use std::process::ExitCode;
 use std::random::RandomSource;
+
+/// The variables that a delivery looks at.
+const NAMES: [&str; 2] = ["LOGNAME", "TZ"];
 
 /// What the words are to be.
 const USAGE: &str = "usage: mail_deliver [-r SENDER] USER ..";
@@ -26,8 +28,8 @@ fn say_usage<R: Eprint>(rt: &R, status: &DeliverStatus) {
 
 fn start(rt: HostRuntime) -> Result<u8, Memory> {
     let alloc = rt.alloc();
-    let words = outside::words(&rt, alloc)?;
-    let pairs = outside::variables(&rt, alloc)?;
+    let words = words(&rt, alloc)?;
+    let pairs = variables(&rt, alloc, &NAMES)?;
     let mut token = [0u8; 8];
     if rt.fill_bytes(&mut token).is_err() {
         return Ok(3);
@@ -36,7 +38,7 @@ fn start(rt: HostRuntime) -> Result<u8, Memory> {
         pairs: Items::of(pairs),
         token: u64::from_le_bytes(token),
     };
-    let wait = outside::waiting_time(&rt, alloc)?;
+    let wait = waiting_time(&rt, alloc)?;
     let mut host = RealHost::new(rt, alloc, b"", wait)?;
     host.deliver();
     let status = deliver(alloc, &words, &env, &mut host);

@@ -105,7 +105,8 @@ module _ (why : Option Refusal) (n : List ℕ) (k : ℕ) where
   right-so names (e ∷ es) h = absurd (cc h)
 
 -- ---- additions are refused only for their length
-add-cause : (b : Bool) (m : List ℕ) (l : ℕ) (later : Option ChangeRefusal) (n : List ℕ) (k : ℕ) → or_else (if b then None else Some (TooLong m l)) later ≡ Some (ChangedAt n k) → later ≡ Some (ChangedAt n k)
+add-cause : (b : Bool) (m : List ℕ) (l : ℕ) (later : Option ChangeRefusal) (n : List ℕ) (k : ℕ)
+    → or_else (if b then None else Some (TooLong m l)) later ≡ Some (ChangedAt n k) → later ≡ Some (ChangedAt n k)
 add-cause true m l later n k h = h
 add-cause false m l later n k h = absurd (cc h)
 

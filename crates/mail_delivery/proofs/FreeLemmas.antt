@@ -132,7 +132,8 @@ abbrev failed : CommitError → Result Unit CommitError
 failed why = Err why
 
 -- the end by its own events is what the answer tells
-told-end : (text : List ℕ) (users : List (List ℕ)) (token : ℕ) (es : List Event) (why : CommitError) (r : Refusal) → token < 2 ^ 64 → first_misnamed actor (additions text users) ≡ None → length users ≤ file_limit
+told-end : (text : List ℕ) (users : List (List ℕ)) (token : ℕ) (es : List Event) (why : CommitError) (r : Refusal) → token < 2 ^ 64
+    → first_misnamed actor (additions text users) ≡ None → length users ≤ file_limit
     → IsCommit actor token (additions text users) [] es (failed why) → ((names : List (List ℕ)) (end : Ending) → TellsEnd names end (failed why) → end ≡ Refused r)
     → end_told actor (additions text users) [] es ≡ Refused r
 told-end text [] token es why r fits well few h say = absurd (let is = h.1 in cc is)
@@ -304,7 +305,8 @@ module _ (request : Request) (env : Environment) (good : IsGood request) (fits :
   at-end s (Err stop.TooMuch) old new many done is too few input disk still = absurd (few (too refl))
   at-end s (Err stop.Memory) old new many done is too few input disk still = subst IsDoneOrMemory (sym is) tt
 
-  pub completes : (s : DeliverStatus) (old new : Counts) (d : Disk) (es : List Event) → MayRun actor env.token d es → (s ≡ status.InputFault → Rose old.ins new.ins) → (s ≡ status.DiskFault → Rose old.disks new.disks)
+  pub completes : (s : DeliverStatus) (old new : Counts) (d : Disk) (es : List Event) → MayRun actor env.token d es
+      → (s ≡ status.InputFault → Rose old.ins new.ins) → (s ≡ status.DiskFault → Rose old.disks new.disks)
       → IsStill old new → (run : Delivers request env s (own es)) → IsUnhindered request env s (own es) run → IsDoneOrMemory s
   completes s old new d es may input disk still run free =
       at-end s run.out old new (input_limit < bytes_in (own es)) (loop-done run.plays d es refl may free.commit) run.status (λ is. run.explained.too_much.0 is) free.input input disk still

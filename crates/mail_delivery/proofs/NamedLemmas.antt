@@ -47,14 +47,16 @@ has-fold ns (x ∷ later) y =
 has-request : (sender : List ℕ) (users : List (List ℕ)) (request : Request) (user : List ℕ) → request_of sender users ≡ Some request → has request.users user ≡ has users user
 has-request sender users request user h = named (is_user_name sender) h
   where
-    given : (b : Bool) → option_map (λ (once : List (List ℕ)). record { sender = sender; users = once }) (if b then Some (each_once users) else None) ≡ Some request → has request.users user ≡ has users user
+    given : (b : Bool) → option_map (λ (once : List (List ℕ)). record { sender = sender; users = once }) (if b then Some (each_once users) else None)
+        ≡ Some request → has request.users user ≡ has users user
     given false e = absurd (cc e)
     given true e =
         let r : Request = record { sender = sender; users = each_once users } in
         let same : r ≡ request = cc e in
         ap (λ (x : Request). has x.users user) (sym same) ∙ has-fold [] users user
 
-    named : (b : Bool) → (if b then option_map (λ (once : List (List ℕ)). record { sender = sender; users = once }) (recipients_of users) else None) ≡ Some request → has request.users user ≡ has users user
+    named : (b : Bool) → (if b then option_map (λ (once : List (List ℕ)). record { sender = sender; users = once }) (recipients_of users) else None)
+        ≡ Some request → has request.users user ≡ has users user
     named false e = absurd (cc e)
     named true e = given (are_recipients users) e
 

@@ -82,7 +82,8 @@ pub delivered-proper : (sender : List ℕ) (lines : List (List ℕ)) (m : Moment
 delivered-proper sender lines m range named flat = lines-proper sender lines m range named (recursion_from_All HasNoFeed lines flat)
 
 -- ---- a moment that the clock told can be printed
-between-so : (low high n : ℤ) → low ≤ℤ high → (low ≤ℤ (if int_lt n low then low else (if int_lt high n then high else n))) × ((if int_lt n low then low else (if int_lt high n then high else n)) ≤ℤ high)
+between-so : (low high n : ℤ) → low ≤ℤ high
+    → (low ≤ℤ (if int_lt n low then low else (if int_lt high n then high else n))) × ((if int_lt n low then low else (if int_lt high n then high else n)) ≤ℤ high)
 between-so low high n h = grind (arith, ints)
 
 pub told-printable : (tz : List ℕ) (seconds : ℤ) (m : Moment) → IsMomentAt tz seconds m → IsPrintable m

@@ -86,7 +86,8 @@ same-request a b e = cc
 request-good : (sender : List ℕ) (users : List (List ℕ)) (request : Request) → request_of sender users ≡ Some request → IsGood request
 request-good sender users request h = named (is_user_name sender) refl h
   where
-    given : (b : Bool) → are_recipients users ≡ b → is_user_name sender ≡ true → option_map (λ (once : List (List ℕ)). record { sender = sender; users = once }) (if b then Some (each_once users) else None) ≡ Some request → IsGood request
+    given : (b : Bool) → are_recipients users ≡ b → is_user_name sender ≡ true
+        → option_map (λ (once : List (List ℕ)). record { sender = sender; users = once }) (if b then Some (each_once users) else None) ≡ Some request → IsGood request
     given false is good e = absurd (cc e)
     given true is good e =
         let a = and_parts _ _ is in
@@ -100,7 +101,8 @@ request-good sender users request h = named (is_user_name sender) refl h
           sender = good;
         })
 
-    named : (b : Bool) → is_user_name sender ≡ b → (if b then option_map (λ (once : List (List ℕ)). record { sender = sender; users = once }) (recipients_of users) else None) ≡ Some request → IsGood request
+    named : (b : Bool) → is_user_name sender ≡ b
+        → (if b then option_map (λ (once : List (List ℕ)). record { sender = sender; users = once }) (recipients_of users) else None) ≡ Some request → IsGood request
     named false is e = absurd (cc e)
     named true is e = given (are_recipients users) refl is e
 

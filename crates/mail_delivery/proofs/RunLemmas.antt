@@ -29,16 +29,19 @@ use Rattle.mail_delivery.proofs.RequestLemmas.{IsGood, reading-good}
 use Rattle.mail_delivery.proofs.RoundLemmas.{input_of, never, threads-round, loads-round, none-counted}
 
 module _ (request : Request) (env : Environment) (good : IsGood request) (fits : env.token < 2 ^ 64) where
-  committed-come : (lines : List (List ℕ)) (m : Moment) (es : List Event) (out : Result (Next Taken DeliverStatus) Stop) (g : Goes (committing request env lines m) es out) → AnswersMayCome (committing request env lines m) es out g
+  committed-come : (lines : List (List ℕ)) (m : Moment) (es : List Event) (out : Result (Next Taken DeliverStatus) Stop)
+      (g : Goes (committing request env lines m) es out) → AnswersMayCome (committing request env lines m) es out g
   committed-come lines m es out (inl (a, front, rest, is, did, goes)) =
       (may-come (wanted request env lines m) (delivered request.sender lines m) request.users a front refl refl refl fits good.recipients good.few did, tt)
   committed-come lines m es out (inr stopped) = tt
 
-  delivered-come : (lines : List (List ℕ)) (es : List Event) (out : Result (Next Taken DeliverStatus) Stop) (g : Goes (delivering request env lines) es out) → AnswersMayCome (delivering request env lines) es out g
+  delivered-come : (lines : List (List ℕ)) (es : List Event) (out : Result (Next Taken DeliverStatus) Stop)
+      (g : Goes (delivering request env lines) es out) → AnswersMayCome (delivering request env lines) es out g
   delivered-come lines es out (inl (m, front, rest, is, did, goes)) = (tt, committed-come lines m rest out goes)
   delivered-come lines es out (inr stopped) = tt
 
-  line-come : (lines : List (List ℕ)) (line : Option (List ℕ)) (j : Input) (es : List Event) (out : Result (Next Taken DeliverStatus) Stop) (g : Goes (after_line request env lines line j) es out) → AnswersMayCome (after_line request env lines line j) es out g
+  line-come : (lines : List (List ℕ)) (line : Option (List ℕ)) (j : Input) (es : List Event) (out : Result (Next Taken DeliverStatus) Stop)
+      (g : Goes (after_line request env lines line j) es out) → AnswersMayCome (after_line request env lines line j) es out g
   line-come lines (Some line) j es out g = tt
   line-come lines None j es out g = delivered-come lines es out g
 

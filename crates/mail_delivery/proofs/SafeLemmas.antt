@@ -152,7 +152,8 @@ module _ (request : Request) (env : Environment) (good : IsGood request) where
           accepts-at out by commits.accepted (ap (λ (c : Commits). c.accepted) commits_is) (accepts-end out (Err cause) by is (cut-as d es cause how))
 
   -- ---- part by part, after the own events before
-  committing-quiet : (lines : List (List ℕ)) (m : Moment) (d : Disk) (es : List Event) (commits : Commits) (out : Result (Next Taken DeliverStatus) Stop) → Passes (committing request env lines m) d es commits out → input_in (own es) ≡ []
+  committing-quiet : (lines : List (List ℕ)) (m : Moment) (d : Disk) (es : List Event) (commits : Commits)
+      (out : Result (Next Taken DeliverStatus) Stop) → Passes (committing request env lines m) d es commits out → input_in (own es) ≡ []
   committing-quiet lines m d es commits out (inl (a, front, rest, later, is, did, commits_is, (none, later_is, end))) =
       ap (λ (l : List Event). input_in (own l)) is
       ∙ ap input_in (own-append front rest ∙ ap (λ (l : List Event). own front ++ l) none ∙ append-nil (own front))
@@ -163,7 +164,8 @@ module _ (request : Request) (env : Environment) (good : IsGood request) where
   parts-after : (before es front rest : List Event) → es ≡ front ++ rest → (before ++ own front) ++ own rest ≡ before ++ own es
   parts-after before es front rest is = append_assoc before (own front) (own rest) ∙ ap (λ (l : List Event). before ++ l) (sym (ap own is ∙ own-append front rest))
 
-  delivering-accepts : (before : List Event) (lines : List (List ℕ)) → TookAll before lines → (d : Disk) (es : List Event) (commits : Commits) (out : Result (Next Taken DeliverStatus) Stop) (p : Passes (delivering request env lines) d es commits out)
+  delivering-accepts : (before : List Event) (lines : List (List ℕ)) → TookAll before lines
+      → (d : Disk) (es : List Event) (commits : Commits) (out : Result (Next Taken DeliverStatus) Stop) (p : Passes (delivering request env lines) d es commits out)
       → AnswersAreDecided (delivering request env lines) d es commits out p → Accepts (before ++ own es) out commits.accepted
   delivering-accepts before lines took d es commits out (inl (m, front, rest, later, is, (seconds, now, moment), commits_is, goes)) decided =
       let asked = own front in
@@ -180,7 +182,8 @@ module _ (request : Request) (env : Environment) (good : IsGood request) where
       (committing-accepts (before ++ own es) lines m here (disk d front) rest later out goes decided.1)
   delivering-accepts before lines took d es commits out (inr (cause, is, commits_is, how)) decided = looked-cut (before ++ own es) commits out cause is (ap (λ (c : Commits). c.accepted) commits_is)
 
-  line-accepts : (before : List Event) (lines : List (List ℕ)) (line : Option (List ℕ)) (j : Input) → TookOne before lines line j → (d : Disk) (es : List Event) (commits : Commits) (out : Result (Next Taken DeliverStatus) Stop)
+  line-accepts : (before : List Event) (lines : List (List ℕ)) (line : Option (List ℕ)) (j : Input) → TookOne before lines line j
+      → (d : Disk) (es : List Event) (commits : Commits) (out : Result (Next Taken DeliverStatus) Stop)
       (p : Passes (after_line request env lines line j) d es commits out) → AnswersAreDecided (after_line request env lines line j) d es commits out p → Accepts (before ++ own es) out commits.accepted
   line-accepts before lines (Some line) j took d es commits out (none, commits_is, end) decided =
       accepts-at (before ++ own es) out [] commits.accepted (ap (λ (c : Commits). c.accepted) commits_is) (elim end [
@@ -189,7 +192,8 @@ module _ (request : Request) (env : Environment) (good : IsGood request) where
       ])
   line-accepts before lines None j took d es commits out p decided = delivering-accepts before lines took d es commits out p decided
 
-  round-accepts : (before : List Event) (t : Taken) → TookLines before t → (d : Disk) (es : List Event) (commits : Commits) (out : Result (Next Taken DeliverStatus) Stop) (p : Passes (round request env t) d es commits out)
+  round-accepts : (before : List Event) (t : Taken) → TookLines before t
+      → (d : Disk) (es : List Event) (commits : Commits) (out : Result (Next Taken DeliverStatus) Stop) (p : Passes (round request env t) d es commits out)
       → AnswersAreDecided (round request env t) d es commits out p → Accepts (before ++ own es) out commits.accepted
   round-accepts before t took d es commits out (inl (a, front, rest, later, is, did, commits_is, goes)) decided =
       let later_took = line-took before (own front) t a took did in
@@ -216,7 +220,8 @@ module _ (request : Request) (env : Environment) (good : IsGood request) where
   line-on before lines None j y took d es commits (inl (m, front, rest, later, is, did, commits_is, inr (cause, e, commits2, how))) = absurd (cc e)
   line-on before lines None j y took d es commits (inr (cause, e, commits_is, how)) = absurd (cc e)
 
-  round-on : (before : List Event) (t y : Taken) → TookLines before t → (d : Disk) (es : List Event) (commits : Commits) → Passes (round request env t) d es commits (goes_on y) → TookLines (before ++ own es) y
+  round-on : (before : List Event) (t y : Taken) → TookLines before t → (d : Disk) (es : List Event) (commits : Commits)
+      → Passes (round request env t) d es commits (goes_on y) → TookLines (before ++ own es) y
   round-on before t y took d es commits (inl (a, front, rest, later, is, did, commits_is, goes)) =
       subst (λ (l : List Event). TookLines l y) (parts-after before es front rest is)
       (line-on (before ++ own front) t.lines a.0 a.1 y (line-took before (own front) t a took did) (disk d front) rest later goes)
@@ -233,7 +238,8 @@ module _ (request : Request) (env : Environment) (good : IsGood request) where
   loop-accepts before {x = x} {d = d} {es = es} {commits = commits} (last {r = r} goes) took decided = round-accepts before x took d es commits (Ok (Last r)) goes decided
   loop-accepts before {x = x} {d = d} {es = es} {commits = commits} (cut {cause = cause} goes) took decided = round-accepts before x took d es commits (Err cause) goes decided
 
-  pub safely : (s : DeliverStatus) (d : Disk) (es : List Event) → env.token < 2 ^ 64 → Honest d es → MayCommit actor env.token d es → Delivers request env s (own es) → DeliversSafely request env s d es
+  pub safely : (s : DeliverStatus) (d : Disk) (es : List Event) → env.token < 2 ^ 64 → Honest d es → MayCommit actor env.token d es
+      → Delivers request env s (own es) → DeliversSafely request env s d es
   safely s d es fits honest may run =
       let read = read-loop (round request env) d es refl run.plays in
       let run_so : MayRun actor env.token d es = record { fits = fits; fresh = may.fresh; sound = may.sound; honest = honest; lawful = may.lawful } in

@@ -67,7 +67,8 @@ first-of : (r more : List ℕ) (p : List ℕ × List ℕ) → first_line r ≡ S
 first-of [] more p is = absurd (none-some p is)
 first-of (b ∷ bs) more p is = go (λ q was. first-of bs more q was) (b == 10) refl is
   where
-    onto : (o : Option (List ℕ × List ℕ)) → ((q : List ℕ × List ℕ) → o ≡ Some q → lines_of (bs ++ more) ≡ lines_at more q) → onto_first b o ≡ Some p → in_front b (lines_of (bs ++ more)) ≡ lines_at more p
+    onto : (o : Option (List ℕ × List ℕ)) → ((q : List ℕ × List ℕ) → o ≡ Some q → lines_of (bs ++ more) ≡ lines_at more q) → onto_first b o ≡ Some p
+        → in_front b (lines_of (bs ++ more)) ≡ lines_at more p
     onto None ih e = absurd (none-some p e)
     onto (Some q) ih e = ap (in_front b) (ih q refl) ∙ ap (lines_at more) (some-same (b ∷ q.0, q.1) p e)
 
@@ -85,7 +86,8 @@ last-front : (b : ℕ) (bs : List ℕ) → first_line bs ≡ None → in_front b
 last-front b [] none = ap (in_front b) lines_of-nil
 last-front b (c ∷ cs) none = go (λ later. last-front c cs later) (c == 10) refl none
   where
-    go : (first_line cs ≡ None → in_front c (lines_of cs) ≡ (c ∷ cs) ∷ []) → (t : Bool) → (c == 10) ≡ t → (if t then Some ([], cs) else onto_first c (first_line cs)) ≡ None → in_front b (lines_of (c ∷ cs)) ≡ (b ∷ c ∷ cs) ∷ []
+    go : (first_line cs ≡ None → in_front c (lines_of cs) ≡ (c ∷ cs) ∷ []) → (t : Bool) → (c == 10) ≡ t
+        → (if t then Some ([], cs) else onto_first c (first_line cs)) ≡ None → in_front b (lines_of (c ∷ cs)) ≡ (b ∷ c ∷ cs) ∷ []
     go ih true at e = absurd (none-some _ (sym e))
     go ih false at e = ap (in_front b) (lines_of-byte c cs at ∙ ih (none-onto c (first_line cs) e))
 
@@ -105,7 +107,8 @@ pub record TookLines (es : List Event) (t : Taken) : Type 0 where
 pub took-none : TookLines [] nothing_taken
 took-none = record { lines = λ more over. refl; ended = λ h. absurd (cc h) }
 
-one-more : (es : List Event) (bytes : List ℕ) (i : Input) (lines : List (List ℕ)) → next_line i ≡ None → TookLines es (taken i lines) → TookLines (es ++ event.In bytes false ∷ []) (taken (took i bytes) lines)
+one-more : (es : List Event) (bytes : List ℕ) (i : Input) (lines : List (List ℕ)) → next_line i ≡ None → TookLines es (taken i lines)
+    → TookLines (es ++ event.In bytes false ∷ []) (taken (took i bytes) lines)
 one-more es bytes i lines none t = record {
   lines = λ more over.
       let open_yet = still_open i none in

@@ -101,7 +101,8 @@ module _ (request : Request) (env : Environment) where
       }
 
   -- the last round ends or is cut off
-  ends-loop : (x : Taken) (es fs : List Event) (out : Result DeliverStatus Stop) → SoFar (round request env) nothing_taken x es → Goes (round request env x) fs (ended out) → Loop (round request env) nothing_taken (es ++ fs) out
+  ends-loop : (x : Taken) (es fs : List Event) (out : Result DeliverStatus Stop) → SoFar (round request env) nothing_taken x es
+      → Goes (round request env x) fs (ended out) → Loop (round request env) nothing_taken (es ++ fs) out
   ends-loop x es fs (Ok s) so goes = so-far-last (round request env) nothing_taken x s es fs so goes
   ends-loop x es fs (Err cause) so goes = so-far-cut (round request env) nothing_taken x cause es fs so goes
 
@@ -136,7 +137,8 @@ module _ (request : Request) (env : Environment) where
       subst G (sym (same lines)) (goes-cut (Ask (Now tz) Ret) (committing request env lines) cause es goes)
 
   -- the whole: the lines, and then the rest
-  pub carried : (body : List ℕ) (out : Result DeliverStatus Stop) (es fs : List Event) → TookBody request env (Ok body) es → OfLines body (delivering request env) out fs → Loop (round request env) nothing_taken (es ++ fs) out
+  pub carried : (body : List ℕ) (out : Result DeliverStatus Stop) (es fs : List Event) → TookBody request env (Ok body) es
+      → OfLines body (delivering request env) out fs → Loop (round request env) nothing_taken (es ++ fs) out
   carried body out es fs took more = took.2 fs out (more took.0 took.1)
 
 -- ---- the names of the files of a delivery
@@ -151,7 +153,8 @@ any-changed (c ∷ cs) name = ap (λ (b : Bool). bytes_eq name (name_of c) || b)
 -- none of them is rewritten
 pub no-rewrite : (text : List ℕ) (users : List (List ℕ)) (P : Type 0) → All (λ (c : Change). IsTrue (is_rewrite c) → P) (additions text users)
 no-rewrite text [] P = All-nil (λ (c : Change). IsTrue (is_rewrite c) → P)
-no-rewrite text (u ∷ us) P = All-cons (λ (c : Change). IsTrue (is_rewrite c) → P) (Add (mailbox u) (text ∷ [])) (additions text us) (λ no. let same : false ≡ true = no in absurd (cc same)) (no-rewrite text us P)
+no-rewrite text (u ∷ us) P = All-cons (λ (c : Change). IsTrue (is_rewrite c) → P) (Add (mailbox u) (text ∷ [])) (additions text us)
+    (λ no. let same : false ≡ true = no in absurd (cc same)) (no-rewrite text us P)
 
 -- ---- the commit
 abbrev pub CommitOf : ℕ → List Change → Play DeliverStatus

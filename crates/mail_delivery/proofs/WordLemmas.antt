@@ -70,7 +70,8 @@ module _ (users : List (List ℕ)) (i : ℕ) (user : List ℕ) (within : i < len
       let past : user_limit < length (each_once users) = omega (arith, many, whole, front-fewer users (i + 1)) in
       sym (cond-false _ _ _ (third-fails (nat_lt 0 (length users)) (list_all is_recipient users) (nat_le (length (each_once users)) user_limit) (not-within (length (each_once users)) past)))
 
-  pub kept : (names new : List (List ℕ)) → names ≡ each_once (take i users) → list_all is_recipient (take i users) ≡ true → new ≡ with_name names user → is_recipient user ≡ true → length new ≤ user_limit
+  pub kept : (names new : List (List ℕ)) → names ≡ each_once (take i users) → list_all is_recipient (take i users) ≡ true → new ≡ with_name names user
+      → is_recipient user ≡ true → length new ≤ user_limit
       → (new ≡ each_once (take (i + 1) users)) × (list_all is_recipient (take (i + 1) users) ≡ true) × (length new ≤ user_limit)
   kept names new so all more fine few = (
     once-more names new so more,

@@ -207,7 +207,8 @@ module _ (t : List ℕ) (first last : ℕ) (more : is_over t ≡ false) (line : 
   name_length-field =
       ap name_length ends.bytes ∙ name_length-append (take first t) (folded_part (lines_after t first)) (HasName-begins (take first t) begins).within
 
-  pub entries_from-cut_field : (let bs = take last t in let k = name_length (take first t) in entries_from false (head_lines t) ≡ field (record { name = take k bs; value = drop (k + 1) bs }) ∷ entries_from false (head_after t last))
+  pub entries_from-cut_field : (let bs = take last t in let k = name_length (take first t) in
+      entries_from false (head_lines t) ≡ field (record { name = take k bs; value = drop (k + 1) bs }) ∷ entries_from false (head_after t last))
   unfolding field_of
   entries_from-cut_field =
       ap (entries_from false) (head_lines-first t first line more)
@@ -230,7 +231,8 @@ module _ (t : List ℕ) (first last : ℕ) (more : is_over t ≡ false) (line : 
       ∙ has.colon
 
 -- a line that is no field
-pub entries_from-cut_other : (t : List ℕ) (first : ℕ) → is_over t ≡ false → IsLineLength t first → begins_field (take first t) ≡ false → entries_from false (head_lines t) ≡ other (take first t) ∷ entries_from false (head_after t first)
+pub entries_from-cut_other : (t : List ℕ) (first : ℕ) → is_over t ≡ false → IsLineLength t first → begins_field (take first t) ≡ false
+    → entries_from false (head_lines t) ≡ other (take first t) ∷ entries_from false (head_after t first)
 entries_from-cut_other t first more line plain = ap (entries_from false) (head_lines-first t first line more) ∙ entries_from-other (take first t) (head_after t first) plain
 
 -- the first line of any text, and the lines after it

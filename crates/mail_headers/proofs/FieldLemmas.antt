@@ -63,7 +63,8 @@ join-lines l (m ∷ ls) = ap (λ (bs : List ℕ). l ++ 10 ∷ bs) (join-lines m 
 
 -- ---- the entries of lines
 
-pub entries_from-field : (within : Bool) (l : List ℕ) (ls : List (List ℕ)) → begins_field l ≡ true → entries_from within (l ∷ ls) ≡ field (field_of (join_with_byte 10 (l ∷ take_while is_folded ls))) ∷ entries_from true ls
+pub entries_from-field : (within : Bool) (l : List ℕ) (ls : List (List ℕ)) → begins_field l ≡ true
+    → entries_from within (l ∷ ls) ≡ field (field_of (join_with_byte 10 (l ∷ take_while is_folded ls))) ∷ entries_from true ls
 unfolding entries_from
 entries_from-field within l ls begins = cond-true _ _ _ begins
 
@@ -79,7 +80,8 @@ entries_from-other l ls plain = cond-false _ _ _ plain
 pub entries_from-unfolded : (l : List ℕ) (ls : List (List ℕ)) → is_folded l ≡ false → entries_from true (l ∷ ls) ≡ entries_from false (l ∷ ls)
 unfolding entries_from
 entries_from-unfolded l ls unfolded =
-    ap (λ (f : Bool). if begins_field l then field (field_of (join_with_byte 10 (l ∷ take_while is_folded ls))) ∷ entries_from true ls else (if f then entries_from true ls else other l ∷ entries_from false ls)) unfolded
+    ap (λ (f : Bool). if begins_field l then field (field_of (join_with_byte 10 (l ∷ take_while is_folded ls)))
+    ∷ entries_from true ls else (if f then entries_from true ls else other l ∷ entries_from false ls)) unfolded
 
 pub entries_from-nil : (within : Bool) → entries_from within [] ≡ []
 unfolding entries_from

@@ -205,7 +205,9 @@ lead-unfolded : (within : Bool) (l : List ℕ) (ls : List (List ℕ)) → is_fol
 lead-unfolded true l ls unfolded = take_while-cons is_folded l ls ∙ cond-false _ _ _ unfolded
 lead-unfolded false l ls unfolded = refl
 
-entries-field : (within : Bool) (l : List ℕ) (ls : List (List ℕ)) → begins_field l ≡ true → flat_map with_feed (take_while is_folded ls) ++ entries_text true ls ≡ flat_map with_feed ls → flat_map with_feed (lead within (l ∷ ls)) ++ entries_text within (l ∷ ls) ≡ flat_map with_feed (l ∷ ls)
+entries-field : (within : Bool) (l : List ℕ) (ls : List (List ℕ)) → begins_field l ≡ true
+    → flat_map with_feed (take_while is_folded ls) ++ entries_text true ls ≡ flat_map with_feed ls
+    → flat_map with_feed (lead within (l ∷ ls)) ++ entries_text within (l ∷ ls) ≡ flat_map with_feed (l ∷ ls)
 entries-field within l ls begins later =
     ap (λ (ms : List (List ℕ)). flat_map with_feed ms ++ entries_text within (l ∷ ls)) (lead-unfolded within l ls (is_folded-begins l begins))
     ∙ ap (λ (es : List Entry). flat_map with_feed (map entry_bytes es)) (entries_from-field within l ls begins)
@@ -213,7 +215,9 @@ entries-field within l ls begins later =
     ∙ append_assoc (with_feed l) (flat_map with_feed (take_while is_folded ls)) (entries_text true ls)
     ∙ ap (λ (bs : List ℕ). with_feed l ++ bs) later
 
-entries-folded : (l : List ℕ) (ls : List (List ℕ)) → is_folded l ≡ true → flat_map with_feed (take_while is_folded ls) ++ entries_text true ls ≡ flat_map with_feed ls → flat_map with_feed (take_while is_folded (l ∷ ls)) ++ entries_text true (l ∷ ls) ≡ flat_map with_feed (l ∷ ls)
+entries-folded : (l : List ℕ) (ls : List (List ℕ)) → is_folded l ≡ true
+    → flat_map with_feed (take_while is_folded ls) ++ entries_text true ls ≡ flat_map with_feed ls
+    → flat_map with_feed (take_while is_folded (l ∷ ls)) ++ entries_text true (l ∷ ls) ≡ flat_map with_feed (l ∷ ls)
 entries-folded l ls folded later =
     ap (λ (ms : List (List ℕ)). flat_map with_feed ms ++ entries_text true (l ∷ ls)) (take_while-cons is_folded l ls ∙ cond-true _ _ _ folded)
     ∙ ap (λ (es : List Entry). (with_feed l ++ flat_map with_feed (take_while is_folded ls)) ++ flat_map with_feed (map entry_bytes es)) (entries_from-folded l ls folded)
@@ -224,7 +228,8 @@ entries-other : (l : List ℕ) (ls : List (List ℕ)) → begins_field l ≡ fal
 entries-other l ls plain later =
     ap (λ (es : List Entry). flat_map with_feed (map entry_bytes es)) (entries_from-other l ls plain) ∙ ap (λ (bs : List ℕ). with_feed l ++ bs) later
 
-entries-unfolded : (l : List ℕ) (ls : List (List ℕ)) → is_folded l ≡ false → entries_text false (l ∷ ls) ≡ flat_map with_feed (l ∷ ls) → flat_map with_feed (take_while is_folded (l ∷ ls)) ++ entries_text true (l ∷ ls) ≡ flat_map with_feed (l ∷ ls)
+entries-unfolded : (l : List ℕ) (ls : List (List ℕ)) → is_folded l ≡ false → entries_text false (l ∷ ls) ≡ flat_map with_feed (l ∷ ls)
+    → flat_map with_feed (take_while is_folded (l ∷ ls)) ++ entries_text true (l ∷ ls) ≡ flat_map with_feed (l ∷ ls)
 entries-unfolded l ls unfolded whole =
     ap (λ (ms : List (List ℕ)). flat_map with_feed ms ++ entries_text true (l ∷ ls)) (lead-unfolded true l ls unfolded)
     ∙ ap (λ (es : List Entry). flat_map with_feed (map entry_bytes es)) (entries_from-unfolded l ls unfolded)

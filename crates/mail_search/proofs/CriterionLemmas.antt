@@ -33,7 +33,8 @@ spelled_by ts fs ks want.Nothing k e is =
     subst (λ (x : Key). IsKey 64 x ts) same whole.2
 
 -- a word that was read is a criterion
-pub is_criterion : (word : List ℕ) (r : Reading) (k : Key) → is_enclosed word ≡ true → spaced_from true (tokens_of word) ≡ true → reading_in word ≡ Some r → key_at r.keys r.want ≡ Some k → IsCriterion word k
+pub is_criterion : (word : List ℕ) (r : Reading) (k : Key) → is_enclosed word ≡ true → spaced_from true (tokens_of word) ≡ true
+    → reading_in word ≡ Some r → key_at r.keys r.want ≡ Some k → IsCriterion word k
 is_criterion word r k encl spaced e is =
     record { enclosed = encl; spaced = spaced; spelled = spelled_by (without_gaps (tokens_of word)) r.frames r.keys r.want k e is }
 
@@ -72,15 +73,18 @@ pub spaced_gap : (rest after : List ℕ) (t : Token) (free : Bool) → tokens_of
 unfolding spaced_from
 spaced_gap rest after t free is g = sym (ap (spaced_from free) is ∙ cond-true _ _ _ g)
 
-pub read_gap : (rest after : List ℕ) (t : Token) (r : Option Reading) → tokens_of rest ≡ t ∷ tokens_of after → is_gap t ≡ true → after_tokens r (without_gaps (tokens_of after)) ≡ after_tokens r (without_gaps (tokens_of rest))
+pub read_gap : (rest after : List ℕ) (t : Token) (r : Option Reading) → tokens_of rest ≡ t ∷ tokens_of after → is_gap t ≡ true
+    → after_tokens r (without_gaps (tokens_of after)) ≡ after_tokens r (without_gaps (tokens_of rest))
 read_gap rest after t r is g = sym (ap (λ (ts : List Token). after_tokens r (without_gaps ts)) is ∙ ap (after_tokens r) (cond-false _ _ _ (ap not g)))
 
 -- another token
-spaced_token : (rest after : List ℕ) (t : Token) (free : Bool) → tokens_of rest ≡ t ∷ tokens_of after → is_gap t ≡ false → spaced_from free (tokens_of rest) ≡ ((free || is_closer t) && spaced_from (is_opener t) (tokens_of after))
+spaced_token : (rest after : List ℕ) (t : Token) (free : Bool) → tokens_of rest ≡ t ∷ tokens_of after → is_gap t ≡ false
+    → spaced_from free (tokens_of rest) ≡ ((free || is_closer t) && spaced_from (is_opener t) (tokens_of after))
 unfolding spaced_from
 spaced_token rest after t free is g = ap (spaced_from free) is ∙ cond-false _ _ _ g
 
-pub spaced_first : (rest after : List ℕ) (t : Token) (free : Bool) → tokens_of rest ≡ t ∷ tokens_of after → is_gap t ≡ false → (free || is_closer t) ≡ true → spaced_from (is_opener t) (tokens_of after) ≡ spaced_from free (tokens_of rest)
+pub spaced_first : (rest after : List ℕ) (t : Token) (free : Bool) → tokens_of rest ≡ t ∷ tokens_of after → is_gap t ≡ false
+    → (free || is_closer t) ≡ true → spaced_from (is_opener t) (tokens_of after) ≡ spaced_from free (tokens_of rest)
 spaced_first rest after t free is g may = sym (spaced_token rest after t free is g ∙ ap (λ (b : Bool). b && spaced_from (is_opener t) (tokens_of after)) may)
 
 pub spaced_not : (rest after : List ℕ) (t : Token) (free : Bool) → tokens_of rest ≡ t ∷ tokens_of after → is_gap t ≡ false → (free || is_closer t) ≡ false → spaced_from free (tokens_of rest) ≡ false
@@ -91,14 +95,16 @@ pub read_token : (rest after : List ℕ) (t : Token) (q : Reading) → tokens_of
 read_token rest after t q is g =
     ap (λ (ts : List Token). after_tokens (Some q) (without_gaps ts)) is ∙ ap (after_tokens (Some q)) (cond-true _ _ _ (ap not g)) ∙ after_tokens-cons q t _
 
-pub read_none : (rest after : List ℕ) (t : Token) (q : Reading) → tokens_of rest ≡ t ∷ tokens_of after → is_gap t ≡ false → after_token q t ≡ None → after_tokens (Some q) (without_gaps (tokens_of rest)) ≡ None
+pub read_none : (rest after : List ℕ) (t : Token) (q : Reading) → tokens_of rest ≡ t ∷ tokens_of after → is_gap t ≡ false → after_token q t ≡ None
+    → after_tokens (Some q) (without_gaps (tokens_of rest)) ≡ None
 read_none rest after t q is g e = read_token rest after t q is g ∙ ap (λ (r : Option Reading). after_tokens r (without_gaps (tokens_of after))) e ∙ after_tokens-none _
 
 -- the token that was found at the front, and that none was
 same_found : (p : Part × Bor (List ℕ)) (t : Part) (after : Bor (List ℕ)) → Some p ≡ Some (t, after) → p ≡ (t, after)
 same_found p t after e = cc
 
-pub found_first : (rest : List ℕ) (o : Option (Part × Bor (List ℕ))) (t : Part) (after : Bor (List ℕ)) → MatchOption o (rest ≡ []) (λ p. tokens_from outside rest ≡ token_of p.0 ∷ tokens_from outside p.1.now) → o ≡ Some (t, after)
+pub found_first : (rest : List ℕ) (o : Option (Part × Bor (List ℕ))) (t : Part) (after : Bor (List ℕ))
+    → MatchOption o (rest ≡ []) (λ p. tokens_from outside rest ≡ token_of p.0 ∷ tokens_from outside p.1.now) → o ≡ Some (t, after)
     → tokens_of rest ≡ token_of t ∷ tokens_of after.now
 found_first rest None t after h e = cc
 found_first rest (Some p) t after h e = subst (λ (q : Part × Bor (List ℕ)). tokens_from outside rest ≡ token_of q.0 ∷ tokens_from outside q.1.now) (same_found p t after e) h

@@ -24,7 +24,8 @@ known_of text facts held = map (known text facts) held
 abbrev held_of : List ℕ → Facts → List Key → List Bool
 held_of text facts keys = map (key_holds text facts) keys
 
-pub known-test : (text : List ℕ) (facts : Facts) (keys : List Key) (old new : List Held) (t : Bor Test) → new ≡ Open t ∷ old → IsKnown text facts old keys → IsKnown text facts new (with_step keys (step.Test t.now))
+pub known-test : (text : List ℕ) (facts : Facts) (keys : List Key) (old new : List Held) (t : Bor Test) → new ≡ Open t ∷ old
+    → IsKnown text facts old keys → IsKnown text facts new (with_step keys (step.Test t.now))
 unfolding key_holds
 known-test text facts keys old new t n e = ap (known_of text facts) n ∙ ap (λ (l : List Bool). passes text facts t.now ∷ l) e
 
@@ -37,7 +38,8 @@ record IsFirst (text : List ℕ) (facts : Facts) (k : Key) (ks : List Key) (h : 
   here : known text facts h ≡ key_holds text facts k
   later : IsKnown text facts rest ks
 
-first_known : (text : List ℕ) (facts : Facts) (k : Key) (ks : List Key) (old : List Held) (h : Held) (rest : List Held) → old ≡ h ∷ rest → IsKnown text facts old (k ∷ ks) → IsFirst text facts k ks h rest
+first_known : (text : List ℕ) (facts : Facts) (k : Key) (ks : List Key) (old : List Held) (h : Held) (rest : List Held) → old ≡ h ∷ rest
+    → IsKnown text facts old (k ∷ ks) → IsFirst text facts k ks h rest
 first_known text facts k ks old h rest o e =
     let f : known text facts h ∷ known_of text facts rest ≡ key_holds text facts k ∷ held_of text facts ks = sym (ap (known_of text facts) o) ∙ e in record { here = cc; later = cc }
 
@@ -77,7 +79,8 @@ known-both : (text : List ℕ) (facts : Facts) (first : Bool) (second : Held) �
 known-both text facts true second = refl
 known-both text facts false second = refl
 
-pub known-or : (text : List ℕ) (facts : Facts) (keys : List Key) (old middle rest new : List Held) (second : Held) (found : Option Held) (first : Bool) → old ≡ second ∷ middle → Pops middle rest found → first ≡ known_or text facts false found
+pub known-or : (text : List ℕ) (facts : Facts) (keys : List Key) (old middle rest new : List Held) (second : Held) (found : Option Held)
+    (first : Bool) → old ≡ second ∷ middle → Pops middle rest found → first ≡ known_or text facts false found
     → new ≡ cond first (Known true) second ∷ rest → IsKnown text facts old keys → IsKnown text facts new (with_step keys Or)
 unfolding key_holds
 known-or text facts [] old middle rest new second found first o pops a n e = nothing_known text facts old second middle _ o e
@@ -92,10 +95,12 @@ known-or text facts (b ∷ k ∷ ks) old middle rest new second None first o pop
 known-or text facts (b ∷ k ∷ ks) old middle rest new second (Some h) first o pops a n e =
     let last = first_known text facts b (k ∷ ks) old second middle o e in
     let next = first_known text facts k ks middle h rest pops last.later in
-    ap (known_of text facts) n ∙ ap (λ (x : Bool). x ∷ known_of text facts rest) (known-either text facts first second ∙ ap (λ (x : Bool). x || known text facts second) (a ∙ next.here) ∙ ap (λ (x : Bool). key_holds text facts k || x) last.here)
+    ap (known_of text facts) n ∙ ap (λ (x : Bool). x ∷ known_of text facts rest)
+    (known-either text facts first second ∙ ap (λ (x : Bool). x || known text facts second) (a ∙ next.here) ∙ ap (λ (x : Bool). key_holds text facts k || x) last.here)
     ∙ ap (λ (l : List Bool). (key_holds text facts k || key_holds text facts b) ∷ l) next.later
 
-pub known-and : (text : List ℕ) (facts : Facts) (keys : List Key) (old middle rest new : List Held) (second : Held) (found : Option Held) (first : Bool) → old ≡ second ∷ middle → Pops middle rest found → first ≡ known_or text facts true found
+pub known-and : (text : List ℕ) (facts : Facts) (keys : List Key) (old middle rest new : List Held) (second : Held) (found : Option Held)
+    (first : Bool) → old ≡ second ∷ middle → Pops middle rest found → first ≡ known_or text facts true found
     → new ≡ cond first second (Known false) ∷ rest → IsKnown text facts old keys → IsKnown text facts new (with_step keys Both)
 unfolding key_holds
 known-and text facts [] old middle rest new second found first o pops a n e = nothing_known text facts old second middle _ o e
@@ -110,11 +115,13 @@ known-and text facts (b ∷ k ∷ ks) old middle rest new second None first o po
 known-and text facts (b ∷ k ∷ ks) old middle rest new second (Some h) first o pops a n e =
     let last = first_known text facts b (k ∷ ks) old second middle o e in
     let next = first_known text facts k ks middle h rest pops last.later in
-    ap (known_of text facts) n ∙ ap (λ (x : Bool). x ∷ known_of text facts rest) (known-both text facts first second ∙ ap (λ (x : Bool). x && known text facts second) (a ∙ next.here) ∙ ap (λ (x : Bool). key_holds text facts k && x) last.here)
+    ap (known_of text facts) n ∙ ap (λ (x : Bool). x ∷ known_of text facts rest)
+    (known-both text facts first second ∙ ap (λ (x : Bool). x && known text facts second) (a ∙ next.here) ∙ ap (λ (x : Bool). key_holds text facts k && x) last.here)
     ∙ ap (λ (l : List Bool). (key_holds text facts k && key_holds text facts b) ∷ l) next.later
 
 -- what the last pop found
-pub known-last : (text : List ℕ) (facts : Facts) (keys : List Key) (old new : List Held) (top : Option Held) → Pops old new top → IsKnown text facts old keys → known_or text facts true top ≡ key_holds text facts (last_key keys)
+pub known-last : (text : List ℕ) (facts : Facts) (keys : List Key) (old new : List Held) (top : Option Held) → Pops old new top
+    → IsKnown text facts old keys → known_or text facts true top ≡ key_holds text facts (last_key keys)
 unfolding key_holds
 known-last text facts [] old new None pops e = refl
 known-last text facts [] old new (Some h) pops e = nothing_known text facts old h new _ pops e
@@ -129,7 +136,8 @@ with_field name string es o = list_any (is_holding name string) (cons_option o (
 pub holding-other : (name string : List ℕ) (e : Entry) (es : List Entry) → field_in e ≡ None → holding_in name string (e ∷ es) ≡ holding_in name string es
 holding-other name string e es is = ap (with_field name string es) is
 
-pub holding-not : (name string : List ℕ) (e : Entry) (es : List Entry) (f : Field) → field_in e ≡ Some f → is_holding name string f ≡ false → holding_in name string (e ∷ es) ≡ holding_in name string es
+pub holding-not : (name string : List ℕ) (e : Entry) (es : List Entry) (f : Field) → field_in e ≡ Some f → is_holding name string f ≡ false
+    → holding_in name string (e ∷ es) ≡ holding_in name string es
 holding-not name string e es f is not = ap (with_field name string es) is ∙ ap (λ (b : Bool). b || holding_in name string es) not
 
 pub holding-here : (name string : List ℕ) (e : Entry) (es : List Entry) (f : Field) → field_in e ≡ Some f → is_holding name string f ≡ true → holding_in name string (e ∷ es) ≡ true

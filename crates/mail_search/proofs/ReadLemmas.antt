@@ -62,7 +62,8 @@ given fs ks a s t ts by whole =
     after_tokens-cons _ _ _ ∙ ap (λ (r : Option Reading). after_tokens r ts) (at_argument fs ks a s ∙ by ∙ ap (option_map (λ m. settled fs (test m ∷ ks))) whole)
 
 -- the name of a field, and then the string
-headed : (fs : List Frame) (ks : List Key) (f s : Token) (t : Test) (ts : List Token) (o : Option (List ℕ)) → string_in f ≡ o → option_and_then (λ f. option_map (tested.Field f) (string_in s)) o ≡ Some t
+headed : (fs : List Frame) (ks : List Key) (f s : Token) (t : Test) (ts : List Token) (o : Option (List ℕ)) → string_in f ≡ o
+    → option_and_then (λ f. option_map (tested.Field f) (string_in s)) o ≡ Some t
     → after_tokens (Some (reading fs ks (want.Argument needs.Name))) (f ∷ s ∷ ts) ≡ after_tokens (Some (settled fs (test t ∷ ks))) ts
 headed fs ks f s t ts None is whole = cc
 headed fs ks f s t ts (Some name) is whole =
@@ -74,7 +75,8 @@ same_test : (a b : Test) → Some a ≡ Some b → a ≡ b
 same_test a b e = cc
 
 -- a test of one token
-alone : (fs : List Frame) (ks : List Key) (name : List ℕ) (o : Opening) (a t : Test) (rest : List Token) → opening_of name ≡ Some o → begun fs ks name o ≡ Some (settled fs (test a ∷ ks)) → Some a ≡ Some t
+alone : (fs : List Frame) (ks : List Key) (name : List ℕ) (o : Opening) (a t : Test) (rest : List Token) → opening_of name ≡ Some o
+    → begun fs ks name o ≡ Some (settled fs (test a ∷ ks)) → Some a ≡ Some t
     → after_tokens (Some (reading fs ks want.Key)) (run name ∷ rest) ≡ after_tokens (Some (settled fs (test t ∷ ks))) rest
 alone fs ks name o a t rest is by e =
     named fs ks name o rest is ∙ ap (λ (r : Option Reading). after_tokens r rest) by ∙ ap (λ (m : Test). after_tokens (Some (settled fs (test m ∷ ks))) rest) (same_test a t e)
@@ -121,7 +123,8 @@ test_begun fs ks name (Day clock order) (s ∷ u ∷ ts) t rest is e = no_test t
 test_begun fs ks name Not ts t rest is e = no_test t _ e
 test_begun fs ks name Or ts t rest is e = no_test t _ e
 
-test_named : (fs : List Frame) (ks : List Key) (name : List ℕ) (o : Option Opening) (ts : List Token) (t : Test) (rest : List Token) → opening_of name ≡ o → option_and_then (λ opening. test_with name opening ts) o ≡ Some t
+test_named : (fs : List Frame) (ks : List Key) (name : List ℕ) (o : Option Opening) (ts : List Token) (t : Test) (rest : List Token)
+    → opening_of name ≡ o → option_and_then (λ opening. test_with name opening ts) o ≡ Some t
     → after_tokens (Some (reading fs ks want.Key)) (run name ∷ (ts ++ rest)) ≡ after_tokens (Some (settled fs (test t ∷ ks))) rest
 test_named fs ks name None ts t rest is e = no_test t _ e
 test_named fs ks name (Some o) ts t rest is e = test_begun fs ks name o ts t rest is e

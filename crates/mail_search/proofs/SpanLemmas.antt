@@ -27,7 +27,8 @@ data Spans : ℕ → List Frame → List Key → List Token → Type 0 where
   in_none : {n : ℕ} → n ≡ 64 → Spans n [] [] []
   in_not : {n : ℕ} {fs : List Frame} {ks : List Key} {front : List Token} (name : List ℕ) → opening_of name ≡ Some Not → Spans (suc n) fs ks front → Spans n (Negation ∷ fs) ks (front ++ run name ∷ [])
   in_first : {n : ℕ} {fs : List Frame} {ks : List Key} {front : List Token} (name : List ℕ) → opening_of name ≡ Some Or → Spans (suc n) fs ks front → Spans n (First ∷ fs) ks (front ++ run name ∷ [])
-  in_second : {n : ℕ} {fs : List Frame} {ks : List Key} {front us : List Token} {a : Key} (name : List ℕ) → opening_of name ≡ Some Or → Spans (suc n) fs ks front → IsKey n a us → Spans n (Second ∷ fs) (a ∷ ks) (front ++ run name ∷ us)
+  in_second : {n : ℕ} {fs : List Frame} {ks : List Key} {front us : List Token} {a : Key} (name : List ℕ) → opening_of name ≡ Some Or
+      → Spans (suc n) fs ks front → IsKey n a us → Spans n (Second ∷ fs) (a ∷ ks) (front ++ run name ∷ us)
   in_group : {n : ℕ} {fs : List Frame} {ks : List Key} {front : List Token} → Spans (suc n) fs ks front → Spans n (Group ∷ fs) ks (front ++ opener ∷ [])
   in_more : {n : ℕ} {fs : List Frame} {ks : List Key} {front us : List Token} {a : Key} → Spans (suc n) fs ks front → AreKeys n a us → Spans n (More ∷ fs) (a ∷ ks) (front ++ opener ∷ us)
 
@@ -105,7 +106,8 @@ moved : (q r : Reading) (ts : List Token) → Some q ≡ Some r → IsAt q ts �
 moved q r ts e at = subst (λ (x : Reading). IsAt x ts) (same_reading q r e) at
 
 -- a frame is opened, if there is room
-opened_at : (n : ℕ) (fs : List Frame) (ks : List Key) (ts us : List Token) (f : Frame) (r : Reading) → Spans n fs ks ts → ((m : ℕ) → Spans (suc m) fs ks ts → Spans m (f ∷ fs) ks us) → opened fs ks f ≡ Some r → IsAt r us
+opened_at : (n : ℕ) (fs : List Frame) (ks : List Key) (ts us : List Token) (f : Frame) (r : Reading) → Spans n fs ks ts
+    → ((m : ℕ) → Spans (suc m) fs ks ts → Spans m (f ∷ fs) ks us) → opened fs ks f ≡ Some r → IsAt r us
 opened_at zero fs ks ts us f r s by e = no_reading r _ (sym (cond-false _ _ _ (le-ltb (length fs) 64 (let room = room_left s in omega arith))) ∙ e)
 opened_at (suc m) fs ks ts us f r s by e =
     moved (reading (f ∷ fs) ks want.Key) r us (sym (cond-true _ _ _ (lt-ltb (length fs) 64 (let room = room_left s in omega arith))) ∙ e) (m, by m s)
@@ -119,16 +121,19 @@ header_awaited name is f field named t m e =
     ap (option_and_then (λ o. test_with name o (f ∷ t ∷ []))) is ∙ ap (option_and_then (λ f. option_map (tested.Field f) (string_in t))) named ∙ e
 
 -- a test by its name alone
-alone_at : (n : ℕ) (fs : List Frame) (ks : List Key) (ts : List Token) (name : List ℕ) (o : Opening) (t : Test) (r : Reading) → Spans n fs ks ts → opening_of name ≡ Some o → test_with name o [] ≡ Some t
+alone_at : (n : ℕ) (fs : List Frame) (ks : List Key) (ts : List Token) (name : List ℕ) (o : Opening) (t : Test) (r : Reading) → Spans n fs ks ts
+    → opening_of name ≡ Some o → test_with name o [] ≡ Some t
     → Some (settled fs (test t ∷ ks)) ≡ Some r → IsAt r (ts ++ run name ∷ [])
 alone_at n fs ks ts name o t r s is whole e =
     moved _ r _ e (settled_at s (test t) (run name ∷ []) (is_test (ap (option_and_then (λ o. test_with name o [])) is ∙ whole)))
 
 -- a name that wants an argument
-awaited_at : (n : ℕ) (fs : List Frame) (ks : List Key) (ts : List Token) (name : List ℕ) (a : Argument) (r : Reading) → Spans n fs ks ts → Awaits a (run name ∷ []) → Some (reading fs ks (want.Argument a)) ≡ Some r → IsAt r (ts ++ run name ∷ [])
+awaited_at : (n : ℕ) (fs : List Frame) (ks : List Key) (ts : List Token) (name : List ℕ) (a : Argument) (r : Reading) → Spans n fs ks ts
+    → Awaits a (run name ∷ []) → Some (reading fs ks (want.Argument a)) ≡ Some r → IsAt r (ts ++ run name ∷ [])
 awaited_at n fs ks ts name a r s waits e = moved _ r _ e (record { room = n; front = ts; args = run name ∷ []; cut = refl; spans = s; awaits = waits })
 
-begun_at : (n : ℕ) (fs : List Frame) (ks : List Key) (ts : List Token) (name : List ℕ) (o : Opening) (r : Reading) → Spans n fs ks ts → opening_of name ≡ Some o → begun fs ks name o ≡ Some r → IsAt r (ts ++ run name ∷ [])
+begun_at : (n : ℕ) (fs : List Frame) (ks : List Key) (ts : List Token) (name : List ℕ) (o : Opening) (r : Reading) → Spans n fs ks ts
+    → opening_of name ≡ Some o → begun fs ks name o ≡ Some r → IsAt r (ts ++ run name ∷ [])
 begun_at n fs ks ts name All r s is e = alone_at n fs ks ts name All tested.All r s is refl e
 begun_at n fs ks ts name (Is fact wanted) r s is e = alone_at n fs ks ts name (Is fact wanted) (tested.Is fact wanted) r s is refl e
 begun_at n fs ks ts name Field r s is e = awaited_at n fs ks ts name (needs.Field name) r s (last_awaited name Field (needs.Field name) is (λ t. refl)) e
@@ -141,7 +146,8 @@ begun_at n fs ks ts name (Day clock order) r s is e = awaited_at n fs ks ts name
 begun_at n fs ks ts name Not r s is e = opened_at n fs ks ts (ts ++ run name ∷ []) Negation r s (λ m h. in_not name is h) e
 begun_at n fs ks ts name Or r s is e = opened_at n fs ks ts (ts ++ run name ∷ []) First r s (λ m h. in_first name is h) e
 
-named_at : (n : ℕ) (fs : List Frame) (ks : List Key) (ts : List Token) (name : List ℕ) (o : Option Opening) (r : Reading) → Spans n fs ks ts → opening_of name ≡ o → option_and_then (begun fs ks name) o ≡ Some r → IsAt r (ts ++ run name ∷ [])
+named_at : (n : ℕ) (fs : List Frame) (ks : List Key) (ts : List Token) (name : List ℕ) (o : Option Opening) (r : Reading) → Spans n fs ks ts
+    → opening_of name ≡ o → option_and_then (begun fs ks name) o ≡ Some r → IsAt r (ts ++ run name ∷ [])
 named_at n fs ks ts name None r s is e = no_reading r _ e
 named_at n fs ks ts name (Some o) r s is e = begun_at n fs ks ts name o r s is e
 
@@ -164,20 +170,24 @@ keyed_at n fs ks ts (quoted bs) r s e = no_reading r _ e
 keyed_at n fs ks ts bad r s e = no_reading r _ e
 
 -- the last argument of a test
-last_at : (fs : List Frame) (ks : List Key) (a : Argument) (ts : List Token) (t : Token) (m : Option Test) (r : Reading) (room : ℕ) (front args : List Token) → ts ≡ front ++ args → Spans room fs ks front → AwaitsLast a args
+last_at : (fs : List Frame) (ks : List Key) (a : Argument) (ts : List Token) (t : Token) (m : Option Test) (r : Reading) (room : ℕ)
+    (front args : List Token) → ts ≡ front ++ args → Spans room fs ks front → AwaitsLast a args
     → made a t ≡ m → option_map (λ m. settled fs (test m ∷ ks)) m ≡ Some r → IsAt r (ts ++ t ∷ [])
 last_at fs ks a ts t None r room front args cut s waits is e = no_reading r _ e
 last_at fs ks a ts t (Some m) r room front args cut s waits is e =
-    moved _ r _ e (subst (IsAt (settled fs (test m ∷ ks))) (sym (append_assoc front args (t ∷ [])) ∙ ap (λ (l : List Token). l ++ t ∷ []) (sym cut)) (settled_at s (test m) (args ++ t ∷ []) (is_test (waits t m is))))
+    moved _ r _ e (subst (IsAt (settled fs (test m ∷ ks))) (sym (append_assoc front args (t ∷ [])) ∙ ap (λ (l : List Token). l ++ t ∷ []) (sym cut))
+    (settled_at s (test m) (args ++ t ∷ []) (is_test (waits t m is))))
 
 -- the name of a field
-field_at : (fs : List Frame) (ks : List Key) (ts : List Token) (t : Token) (f : Option (List ℕ)) (r : Reading) (room : ℕ) (front args : List Token) → ts ≡ front ++ args → Spans room fs ks front → Awaits needs.Name args
+field_at : (fs : List Frame) (ks : List Key) (ts : List Token) (t : Token) (f : Option (List ℕ)) (r : Reading) (room : ℕ) (front args : List Token)
+    → ts ≡ front ++ args → Spans room fs ks front → Awaits needs.Name args
     → string_in t ≡ f → option_map (λ name. reading fs ks (want.Argument (needs.Field name))) f ≡ Some r → IsAt r (ts ++ t ∷ [])
 field_at fs ks ts t None r room front args cut s waits is e = no_reading r _ e
 field_at fs ks ts t (Some name) r room front args cut s waits is e =
     moved _ r _ e (record { room = room; front = front; args = args ++ t ∷ []; cut = ap (λ (l : List Token). l ++ t ∷ []) cut ∙ append_assoc front args (t ∷ []); spans = s; awaits = waits t name is })
 
-argued_at : (fs : List Frame) (ks : List Key) (a : Argument) (ts : List Token) (t : Token) (r : Reading) (room : ℕ) (front args : List Token) → ts ≡ front ++ args → Spans room fs ks front → Awaits a args → argued fs ks a t ≡ Some r → IsAt r (ts ++ t ∷ [])
+argued_at : (fs : List Frame) (ks : List Key) (a : Argument) (ts : List Token) (t : Token) (r : Reading) (room : ℕ) (front args : List Token)
+    → ts ≡ front ++ args → Spans room fs ks front → Awaits a args → argued fs ks a t ≡ Some r → IsAt r (ts ++ t ∷ [])
 argued_at fs ks needs.Name ts t r room front args cut s waits e = field_at fs ks ts t (string_in t) r room front args cut s waits refl e
 argued_at fs ks (needs.Field name) ts t r room front args cut s waits e = last_at fs ks (needs.Field name) ts t (made (needs.Field name) t) r room front args cut s waits refl e
 argued_at fs ks needs.Body ts t r room front args cut s waits e = last_at fs ks needs.Body ts t (made needs.Body t) r room front args cut s waits refl e

@@ -35,7 +35,8 @@ pub settle-group : (all rest : List Frame) (f : Frame) (ks : List Key) → all �
 unfolding settled
 settle-group all rest f ks cut is = sym (ap (λ (fs : List Frame). settled fs ks) (cut ∙ ap (λ (x : Frame). x ∷ rest) is))
 
-pub settle-more : (all rest : List Frame) (f : Frame) (old new : List Step) → all ≡ f ∷ rest → f ≡ More → new ≡ old ++ Both ∷ [] → reading (More ∷ rest) (keys_of new) want.Key ≡ settled all (keys_of old)
+pub settle-more : (all rest : List Frame) (f : Frame) (old new : List Step) → all ≡ f ∷ rest → f ≡ More → new ≡ old ++ Both ∷ []
+    → reading (More ∷ rest) (keys_of new) want.Key ≡ settled all (keys_of old)
 unfolding settled
 settle-more all rest f old new cut is more =
     ap (λ (ks : List Key). reading (More ∷ rest) ks want.Key) (keys-push old new Both more) ∙ sym (ap (λ (fs : List Frame). settled fs (keys_of old)) (cut ∙ ap (λ (x : Frame). x ∷ rest) is))

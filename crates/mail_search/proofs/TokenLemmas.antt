@@ -49,7 +49,8 @@ run_before-string b (bad ∷ ts) h = refl
 
 -- the tokens of bytes that don't begin with a byte of a run
 abbrev other_tokens : ℕ → List ℕ → List Token
-other_tokens b bs = cond (b == 34) (tokens_from inside bs) (cond (b == 40) (opener ∷ tokens_from outside bs) (cond (b == 41) (closer ∷ tokens_from outside bs) (cond (is_blank b) (gap ∷ tokens_from outside bs) (bad ∷ tokens_from outside bs))))
+other_tokens b bs = cond (b == 34) (tokens_from inside bs)
+    (cond (b == 40) (opener ∷ tokens_from outside bs) (cond (b == 41) (closer ∷ tokens_from outside bs) (cond (is_blank b) (gap ∷ tokens_from outside bs) (bad ∷ tokens_from outside bs))))
 
 pub tokens-run : (b : ℕ) (bs : List ℕ) → is_run_byte b ≡ true → tokens_from outside (b ∷ bs) ≡ run_before b (tokens_from outside bs)
 unfolding tokens_from
@@ -191,11 +192,13 @@ pub turn_escaped : (out : List ℕ) (escaped : Bool) (i : ℕ) (bs : List ℕ) �
 turn_escaped out escaped i bs lt after =
     sym (at_place out escaped i bs lt ∙ ap (λ (e : Bool). strung out (tokens_from (string_place e) (get_or bs i 0 ∷ drop (i + 1) bs))) after ∙ escaped_byte out _ _)
 
-pub turn_plain : (out : List ℕ) (escaped : Bool) (i : ℕ) (bs : List ℕ) → i < length bs → escaped ≡ false → get_or bs i 0 ≢ 92 → get_or bs i 0 ≢ 34 → strung_at (out ++ get_or bs i 0 ∷ []) false (i + 1) bs ≡ strung_at out escaped i bs
+pub turn_plain : (out : List ℕ) (escaped : Bool) (i : ℕ) (bs : List ℕ) → i < length bs → escaped ≡ false → get_or bs i 0 ≢ 92 → get_or bs i 0 ≢ 34
+    → strung_at (out ++ get_or bs i 0 ∷ []) false (i + 1) bs ≡ strung_at out escaped i bs
 turn_plain out escaped i bs lt plain e q =
     sym (at_place out escaped i bs lt ∙ ap (λ (e : Bool). strung out (tokens_from (string_place e) (get_or bs i 0 ∷ drop (i + 1) bs))) plain ∙ plain_byte out _ _ e q)
 
-pub turn_last : (out : List ℕ) (escaped : Bool) (i : ℕ) (bs : List ℕ) → i < length bs → escaped ≡ false → get_or bs i 0 ≢ 92 → get_or bs i 0 ≡ 34 → strung_at out escaped i bs ≡ quoted out ∷ tokens_from outside (drop (i + 1) bs)
+pub turn_last : (out : List ℕ) (escaped : Bool) (i : ℕ) (bs : List ℕ) → i < length bs → escaped ≡ false → get_or bs i 0 ≢ 92 → get_or bs i 0 ≡ 34
+    → strung_at out escaped i bs ≡ quoted out ∷ tokens_from outside (drop (i + 1) bs)
 turn_last out escaped i bs lt plain e q =
     at_place out escaped i bs lt ∙ ap (λ (e : Bool). strung out (tokens_from (string_place e) (get_or bs i 0 ∷ drop (i + 1) bs))) plain
     ∙ ap (strung out) (last_quote _ _ e q) ∙ ap (λ (l : List ℕ). quoted l ∷ tokens_from outside (drop (i + 1) bs)) (append-nil out)

@@ -15,7 +15,8 @@ position_or_len-not p (x ∷ xs) =
     ap (λ (b : Bool). cond b (1 + position_or_len (λ y. not (p y)) xs) 0) (not-not (p x)) ∙ ap (λ (n : ℕ). cond (p x) (1 + n) 0) (position_or_len-not p xs)
 
 -- how long the front is that passes, where the place of the first element that doesn't was looked for
-pub prefix_len-from_position : (p : ℕ → Bool) (xs : List ℕ) (r : Option ℕ) → (let n = position_or_len (λ x. not (p x)) xs in r ≡ cond (nat_lt n (length xs)) (Some n) None) → unwrap_or r (length xs) ≡ prefix_len p xs
+pub prefix_len-from_position : (p : ℕ → Bool) (xs : List ℕ) (r : Option ℕ)
+    → (let n = position_or_len (λ x. not (p x)) xs in r ≡ cond (nat_lt n (length xs)) (Some n) None) → unwrap_or r (length xs) ≡ prefix_len p xs
 prefix_len-from_position p xs r found =
     let n : ℕ = position_or_len (λ x. not (p x)) xs in
     let same : n ≡ prefix_len p xs = position_or_len-not p xs in

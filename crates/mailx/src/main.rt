@@ -6,13 +6,14 @@ mod outside;
 use host_real::RealHost;
 use mail_text::{Items, Memory};
 use mailx_top::{Environment, run};
+use process_env::{variables, waiting_time, words};
 use std::process::ExitCode;
 use std::random::RandomSource;
 
 fn start(rt: HostRuntime) -> Result<u8, Memory> {
     let alloc = rt.alloc();
-    let words = outside::words(&rt, alloc)?;
-    let pairs = outside::variables(&rt, alloc)?;
+    let words = words(&rt, alloc)?;
+    let pairs = variables(&rt, alloc, &outside::NAMES)?;
     let mut token = [0u8; 8];
     if rt.fill_bytes(&mut token).is_err() {
         let _ = rt.write_all(b"mailx: input fault\n");
@@ -26,7 +27,7 @@ fn start(rt: HostRuntime) -> Result<u8, Memory> {
         terminal: outside::is_terminal(&rt, alloc)?,
         token,
     };
-    let wait = outside::waiting_time(&rt, alloc)?;
+    let wait = waiting_time(&rt, alloc)?;
     let mut host = RealHost::new(rt, alloc, scratch.bytes(), wait)?;
     Ok(run(alloc, &words, &env, &mut host).number())
 }

@@ -23,7 +23,8 @@ apart-push : (x name : List ℕ) (names : List (List ℕ)) → AllByRecursion (�
 apart-push x name [] h last = (last, tt)
 apart-push x name (y ∷ ys) h last = (h.0, apart-push x name ys h.1 last)
 
-new-apart : (m : Macro) (ms : List Macro) (name : List ℕ) (b : Bool) → bytes_eq name m.0 ≡ b → is_some (if b then Some m.1 else body_of ms name) ≡ false → (bytes_eq name m.0 ≡ false) × (is_defined ms name ≡ false)
+new-apart : (m : Macro) (ms : List Macro) (name : List ℕ) (b : Bool) → bytes_eq name m.0 ≡ b
+    → is_some (if b then Some m.1 else body_of ms name) ≡ false → (bytes_eq name m.0 ≡ false) × (is_defined ms name ≡ false)
 new-apart m ms name true same new = absurd (true≢false new)
 new-apart m ms name false apart new = (apart, new)
 
@@ -50,7 +51,8 @@ without-lines (m ∷ ms) name = go (bytes_eq name m.0) (without-lines ms name)
     go true h = let all = sum_by-cons (λ (q : Macro). length q.1) m ms in omega arith
     go false h = let all = sum_by-cons (λ (q : Macro). length q.1) m ms in let less = sum_by-cons (λ (q : Macro). length q.1) m (without ms name) in omega arith
 
-without-apart : (x : List ℕ) (macros : List Macro) (name : List ℕ) → AllByRecursion (λ y. bytes_eq x y ≡ false) (keys_of macros) → AllByRecursion (λ y. bytes_eq x y ≡ false) (keys_of (without macros name))
+without-apart : (x : List ℕ) (macros : List Macro) (name : List ℕ) → AllByRecursion (λ y. bytes_eq x y ≡ false) (keys_of macros)
+    → AllByRecursion (λ y. bytes_eq x y ≡ false) (keys_of (without macros name))
 without-apart x [] name h = tt
 without-apart x (m ∷ ms) name h = go (bytes_eq name m.0) (without-apart x ms name h.1)
   where
@@ -95,11 +97,13 @@ pub are_none : AreDefinitions [] None
 are_none = record { few = (omega arith); short = (omega arith); distinct = none-distinct; apart = refl }
 
 -- a definition that isn't refused
-pub are_begun : (done : List Macro) (unfinished : Option Macro) (name : List ℕ) → begin_refusal (record { done = done; unfinished = unfinished }) name ≡ None → AreDefinitions done unfinished → AreDefinitions done (Some (name, []))
+pub are_begun : (done : List Macro) (unfinished : Option Macro) (name : List ℕ)
+    → begin_refusal (record { done = done; unfinished = unfinished }) name ≡ None → AreDefinitions done unfinished → AreDefinitions done (Some (name, []))
 are_begun done (Some m) name ok are = absurd (cc ok)
 are_begun done None name ok are = go (is_defined done name) refl (nat_le 1000 (length done)) (leb-false 1000 (length done)) ok
   where
-    go : (d : Bool) → is_defined done name ≡ d → (f : Bool) → (f ≡ false → length done < 1000) → (if d then Some Taken else if f then Some TooMany else None) ≡ None → AreDefinitions done (Some (name, []))
+    go : (d : Bool) → is_defined done name ≡ d → (f : Bool) → (f ≡ false → length done < 1000)
+        → (if d then Some Taken else if f then Some TooMany else None) ≡ None → AreDefinitions done (Some (name, []))
     go true is f small h = absurd (cc h)
     go false is true small h = absurd (cc h)
     go false is false small h = record {
@@ -109,7 +113,8 @@ are_begun done None name ok are = go (is_defined done name) refl (nat_le 1000 (l
       apart = ap not is;
     }
 
-count-begun : (done : List Macro) (unfinished : Option Macro) (name : List ℕ) → begin_refusal (record { done = done; unfinished = unfinished }) name ≡ None → line_count done unfinished ≡ line_count done (Some (name, []))
+count-begun : (done : List Macro) (unfinished : Option Macro) (name : List ℕ)
+    → begin_refusal (record { done = done; unfinished = unfinished }) name ≡ None → line_count done unfinished ≡ line_count done (Some (name, []))
 count-begun done (Some m) name ok = absurd (cc ok)
 count-begun done None name ok = omega arith
 

@@ -36,7 +36,8 @@ found-last (m ∷ ms) name lines other new = go (bytes_eq name m.0) refl (found-
 
     go : (b : Bool) → bytes_eq name m.0 ≡ b → (is_defined ms name ≡ false → body_of (ms ++ (name, lines) ∷ []) other ≡ (if bytes_eq other name then Some lines else body_of ms other))
         → is_some (if b then Some m.1 else body_of ms name) ≡ false
-        → (if bytes_eq other m.0 then Some m.1 else body_of (ms ++ (name, lines) ∷ []) other) ≡ (if bytes_eq other name then Some lines else (if bytes_eq other m.0 then Some m.1 else body_of ms other))
+        → (if bytes_eq other m.0 then Some m.1 else body_of (ms ++ (name, lines) ∷ []) other)
+        ≡ (if bytes_eq other name then Some lines else (if bytes_eq other m.0 then Some m.1 else body_of ms other))
     go true same rest h = absurd (true≢false h)
     go false apart rest h =
         at-first (bytes_eq other m.0) (bytes_eq other name)

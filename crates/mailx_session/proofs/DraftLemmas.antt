@@ -15,23 +15,17 @@ use Rattle.compose_tilde.specs.declared.need.ComposeError.TheVariants as error
 use Rattle.compose_tilde.specs.Steps.{Step, Means}
 use Rattle.compose_tilde.specs.Lines.{line_step}
 use Rattle.compose_tilde.specs.Answering.{idle, answer_step}
-use Rattle.host_port.specs.declared.event.Event.{Event}
-use Rattle.session_play.specs.declared.stop.Stop.{Stop}
-use Rattle.session_play.specs.Play.{Play, Next, Goes}
+use Rattle.session_play.specs.Play.{Play, Next}
 use Rattle.session_play.specs.Steps.{refused}
 use Rattle.session_state.specs.declared.state.SessionState.{SessionState}
 use Rattle.session_state.specs.declared.status.Status.{Status}
 use Rattle.session_state.specs.States.{with_draft}
 use Rattle.session_asks.specs.Beginning.{view_in}
-use Rattle.mailx_session.specs.Drafting.{escape_fault, released, told, took_answer, given, answered, needed, took_line, drafted, draft_play, run_for}
+use Rattle.mailx_session.specs.Drafting.{escape_fault, released, told, took_answer, given, answered, needed, took_line, drafted, draft_play}
 use Rattle.mailx_session.specs.Taking.{TookAnswer, TookLine, RefusesLine, IsEscapeFault, SaysFault}
 
 abbrev plays : Type 0
 plays = Play (Next SessionState Status)
-
--- a command that is run, where it is another's bytes
-pub run-as : (s : SessionState) (w v input : List ℕ) (out : Result (Next SessionState Status) Stop) → w ≡ v → (es : List Event) → Goes (run_for s w input) es out → Goes (run_for s v input) es out
-run-as s w v input out is = subst (λ (x : List ℕ). (es : List Event) → Goes (run_for s w input) es out → Goes (run_for s x input) es out) is (λ es goes. goes)
 
 -- a step that is refused, with the line that refuses it
 step-refused : (e : ComposeError) (line : List ℕ) (m : Machine) (step : Step) (k : Step → plays) (s : SessionState)

@@ -1,6 +1,8 @@
 pub mod ObeyLemmas
+pub mod WalkLemmas
 pub mod LineLemmas
 pub mod DraftLemmas
+pub mod FetchLemmas
 pub mod FinishLemmas
 pub mod LeavingLemmas
 pub mod RoundLemmas

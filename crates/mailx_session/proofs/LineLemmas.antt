@@ -1,86 +1,36 @@
--- One walk over all that a session does: a line of the input or from elsewhere, the end of a draft, a start-up file, and how the folder is left.
--- It tells what each may ask and how each may end, that a run ends for its record exactly if a commit met one that can't be read, and that a draft
--- counts as refused only if changes were.
-use Rattle.std.proofs.Common.{◌≡◌, ◌+◌, ◌||◌, ◌⊎◌, ℕ, Bool, true, false, List, [], ◌∷◌, length, refl, ap, inl, inr, sym, ◌∙◌, nat_le}
-use Rattle.std.specs.Prelude.{◌==◌, ◌++◌, ℤ, codes, nat_lt, not, if◌then◌else◌}
-use Rattle.std.specs.Str.{bytes_eq}
+-- What a session may do, for an actor and a token: its commits are theirs, and so is each state that it leaves.
+use Rattle.std.proofs.Common.{◌≡◌, ℕ, Bool, false, List, [], ◌∷◌}
+use Rattle.std.specs.declared.result.Result.TheVariants.{Ok, Err}
 use Rattle.std.specs.declared.option.Option.{Option}
 use Rattle.std.specs.declared.option.Option.TheVariants.{Some, None}
-use Rattle.std.specs.declared.result.Result.{Result}
-use Rattle.std.specs.declared.result.Result.TheVariants.{Ok, Err}
-use Rattle.host_port.specs.declared.event.ChildAnswer.{ChildAnswer}
-use Rattle.host_port.specs.declared.event.EditAnswer.{EditAnswer}
-use Rattle.mail_dates.specs.declared.moment.Moment.{Moment}
 use Rattle.folder_change.specs.declared.change.Change.{Change}
-use Rattle.folder_change.specs.Changes.{name_of}
-use Rattle.session_play.specs.declared.act.Found.{Found}
-use Rattle.session_play.specs.declared.act.Found.TheVariants as found
-use Rattle.session_play.specs.declared.changing.Attempt.{Attempt}
-use Rattle.session_play.specs.declared.changing.Attempt.TheVariants.{Made, Misnamed}
-use Rattle.session_play.specs.declared.changing.Committed.TheVariants as committed
 use Rattle.session_play.specs.Acts.{AllEnds}
-use Rattle.session_play.specs.Play.{Act, Line, Say, Read, Try, Changes, Recover, Child, Editor, Now, Know, Play, Ret, Ask, Next, Go, Last, bind}
-use Rattle.session_play.specs.Steps.{After, On, Over, Refused, Ended, onward, in_order, refused, concluded}
+use Rattle.session_play.specs.Play.{Act, Play, Next}
 use Rattle.play_safety.specs.Safe.{IsBy, OfCommit}
-use Rattle.draft_text.specs.declared.draft.Draft.{Draft}
-use Rattle.draft_text.specs.Texts.{flattened}
-use Rattle.sender_port.specs.declared.error.SendError.{SendError}
-use Rattle.sender_port.specs.declared.error.SendError.TheVariants as send
-use Rattle.sender_port.specs.Sending.{sent}
-use Rattle.send_rules.specs.declared.addressing.Recipients.{Recipients}
-use Rattle.send_rules.specs.Addressing.{addressees, addressed}
 use Rattle.send_rules.specs.Recording.{dead, recorded}
-use Rattle.send_rules.specs.Lines.{names_refused, sender_ended, sender_not_run, too_many_recipients}
-use Rattle.mailx_vars.specs.Names.{is_short_name}
-use Rattle.compose_tilde.specs.declared.machine.Machine.{Machine}
-use Rattle.compose_tilde.specs.declared.need.Need.{Need}
-use Rattle.compose_tilde.specs.declared.need.Need.TheVariants as need
-use Rattle.compose_tilde.specs.declared.need.Answer as answer_of
-use Rattle.compose_tilde.specs.declared.need.Answer.TheVariants as answer
-use Rattle.compose_tilde.specs.Answering.{new_machine, answer_step}
-use Rattle.compose_tilde.specs.Lines.{asks_subject, line_step}
-use Rattle.compose_tilde.specs.Steps.{Step}
 use Rattle.command_desk.specs.declared.steps.Ask as asked_of
 use Rattle.command_desk.specs.declared.steps.Ask.TheVariants as asks
 use Rattle.command_desk.specs.declared.steps.Steps.{Steps}
 use Rattle.command_desk.specs.Answers.{OrFault}
-use Rattle.command_desk.specs.Effects.{moved}
-use Rattle.command_desk.specs.Desks.{message_text}
-use Rattle.command_desk.specs.Faults.{too_large, calls_too_deep, bad_name, none_applicable}
-use Rattle.command_desk.specs.FileNames.{expanded}
 use Rattle.folder_commands.specs.Leaving.{quit}
-use Rattle.folder_commands.specs.Editing.{edited_change, edited_texts}
-use Rattle.folder_commands.specs.Saving.{receipt}
-use Rattle.mbox_scan.specs.Mailbox.{join}
-use Rattle.read_commands.specs.declared.origin.Origin.TheVariants as origin
 use Rattle.read_commands.specs.Origins.{commanded}
-use Rattle.session_state.specs.Bringing.{call_limit, calls, with_lines}
-use Rattle.session_state.specs.Outcomes.{not_sent, status_of}
-use Rattle.session_state.specs.Placing.{placed as file_of, placed_changes}
-use Rattle.session_state.specs.Saving.{is_changed, commit_of, after_commit, saved}
-use Rattle.session_state.specs.States.{is_drafting, settled, with_desk, with_draft, with_count, without_draft, at_rest, rested, command_limit}
+use Rattle.session_state.specs.Saving.{commit_of}
+use Rattle.session_state.specs.States.{rested}
 use Rattle.session_state.specs.declared.frames.WaitingLine.{WaitingLine}
-use Rattle.session_state.specs.declared.kinds.FrameKind.TheVariants as kinds
 use Rattle.session_state.specs.declared.outcome.Outcome.{Outcome}
-use Rattle.session_state.specs.declared.outcome.Outcome.TheVariants as outcome
 use Rattle.session_state.specs.declared.state.SessionState.{SessionState}
 use Rattle.session_state.specs.declared.status.Status.{Status}
-use Rattle.session_state.specs.declared.status.Status.TheVariants as status
-use Rattle.session_asks.specs.Asks.{asked}
-use Rattle.session_asks.specs.Beginning.{with_new_draft, subject_asked, view_in, begun, at_message, placed, file_fault, beginning}
-use Rattle.session_asks.specs.Gathering.{gather_fault, gathers}
-use Rattle.session_asks.specs.Running.{after_run}
-use Rattle.session_asks.specs.Editing.{changing, edited, editing, is_number, judged, looked, told as told_edit, with_row, with_texts}
-use Rattle.session_asks.specs.Sourcing.{source_fault, after_load, sourced}
-use Rattle.session_asks.specs.Renewing.{folder_fault, loaded_again, taking, renews}
-use Rattle.session_asks.specs.Switching.{open_fault, loaded_folder, switched, announced, switched_to, switches}
-use Rattle.draft_sending.specs.Sending.{letter_of, text_of, unsent_by, refused_by, unrecorded, saved_one, buried, burying, lost, unsent, after_sender, sending, after_record, recording, posting, addressing, ended, ended_draft, quitted}
-use Rattle.mailx_session.specs.Drafting.{released, told, took_answer, given, after_fetch, fetched, after_child, after_edit, written, put, needed, took_line, drafted, draft_play}
-use Rattle.mailx_session.specs.Leaving.{left_by, leaving}
-use Rattle.mailx_session.specs.Rounds.{line_play, command_play, typed_play, dropped_play, counted_play, is_empty, outside_play, is_uncounted, waiting_play}
-use Rattle.mailx_session.specs.Sessions.{carried_out}
-use Rattle.mailx_session.specs.Startup.{after_startup, startup_play}
-use Rattle.mailx_session.proofs.ObeyLemmas.{Obeys, bind-obeys, obeys-ends, Met, nothing_met, met_by}
+use Rattle.draft_sending.specs.Sending.{ended_draft, letter_of, text_of}
+use Rattle.mailx_session.specs.Leaving.{leaving}
+use Rattle.mailx_session.specs.Rounds.{typed_play, waiting_play}
+use Rattle.mailx_session.specs.Startup.{startup_play}
+use Rattle.mailx_session.proofs.ObeyLemmas.{Obeys, Met, nothing_met, met_by}
+use Rattle.mailx_session.proofs.WalkLemmas as walk
+pub use Rattle.mailx_session.proofs.WalkLemmas.{CameFrom, Fine, EndsSo, LineEnds, RunEnds, EndsAs, LeavesAs}
+
+-- an actor and a token are these, whatever the folder has
+abbrev AreThese : List ℕ → ℕ → List ℕ → ℕ → List ℕ → Type 0
+AreThese actor token a t folder = (a ≡ actor) × (t ≡ token)
 
 -- a state of this actor and this token
 abbrev pub IsOf : List ℕ → ℕ → SessionState → Type 0
@@ -90,483 +40,95 @@ IsOf actor token s = (s.actor ≡ actor) × (s.token ≡ token)
 abbrev pub IsLike : List ℕ → ℕ → Outcome → SessionState → Type 0
 IsLike actor token o s = IsOf actor token s × (s.outcome ≡ o)
 
--- drafts that had come to this before count as refused now only if changes were refused
-abbrev pub CameFrom : Outcome → Bool → Outcome → Type 0
-CameFrom o true now = Unit {0}
-CameFrom o false now = now ≡ outcome.Refused → o ≡ outcome.Refused
-
 -- such a state, so
 abbrev pub IsAfter : List ℕ → ℕ → Outcome → Bool → SessionState → Type 0
 IsAfter actor token o refused s = IsOf actor token s × CameFrom o refused s.outcome
 
 abbrev pub NextOf : List ℕ → ℕ → Next SessionState Status → Type 0
-NextOf actor token (Go s) = IsOf actor token s
-NextOf actor token (Last e) = Unit {0}
+NextOf actor token n = walk.NextOf (AreThese actor token) n
 
 -- what a line may ask: nothing of the input, no load that cuts the run off, no recovery, and commits of its actor and token
 abbrev pub MayAsk : List ℕ → ℕ → Act → Type 0
-MayAsk actor token (Line i) = ⊥
-MayAsk actor token (Read name) = ⊥
-MayAsk actor token (Recover a t) = ⊥
-MayAsk actor token (Changes c) = IsBy actor token c
-MayAsk actor token act = Unit {0}
+MayAsk actor token act = walk.MayAsk (IsBy actor token) act
 
--- no record was met that can't be read, and this holds
-abbrev pub Fine : Bool → Type 0 → Type 0
-Fine true P = ⊥
-Fine false P = P
-
--- a run that met such a record ends for it, and another only so
-abbrev pub EndsSo : (Status → Type 0) → Bool → Status → Type 0
-EndsSo Exits true e = e ≡ status.BadRecord
-EndsSo Exits false e = Exits e
-
--- nothing was met, and this holds
-abbrev Clear : Met → Type 0 → Type 0
-Clear (false, false) P = P
-Clear met P = ⊥
-
--- how an ask ends: in a state of which this holds, by a line that refuses what follows, or with the run
-abbrev AskEnds : (SessionState → Type 0) → (Status → Type 0) → Met → After SessionState Status → Type 0
-AskEnds Stays Exits met (On s) = Clear met (Stays s)
-AskEnds Stays Exits met (Over s) = Clear met (Stays s)
-AskEnds Stays Exits met (Refused line) = Fine met.0 (Unit {0})
-AskEnds Stays Exits met (Ended e) = EndsSo Exits met.0 e
-
--- and how a line does
-abbrev pub LineEnds : (Bool → SessionState → Type 0) → (Status → Type 0) → Met → Next SessionState Status → Type 0
-LineEnds Stays Exits met (Go s) = Fine met.0 (Stays met.1 s)
-LineEnds Stays Exits met (Last e) = EndsSo Exits met.0 e
-
--- a leaving ends the run so
-abbrev pub RunEnds : (Status → Type 0) → Met → Status → Type 0
-RunEnds Exits met e = EndsSo Exits met.0 e
-
--- a run ends by what became of drafts; once the folder was to be left it may end refused too
-abbrev pub EndsAs : Outcome → Status → Type 0
-EndsAs o e = e ≡ status_of o
-
-abbrev pub LeavesAs : Outcome → Status → Type 0
-LeavesAs o e = (e ≡ status_of o) ⊎ (e ≡ status.Refused)
-
--- a draft that begins, and the question for its subject
-abbrev begins : Bool → SessionState → Draft → Play (After SessionState Status)
-begins b s draft = bind (subject_asked b) (λ u. Ret (Over (with_new_draft s draft)))
-
-module _ (actor : List ℕ) (token : ℕ) (o : Outcome) where
-  abbrev pub From : {R : Type 0} → Met → (Met → R → Type 0) → Play R → Type 0
-  From met E p = Obeys (λ (met : Met). MayAsk actor token) met_by E met p
-
-  abbrev pub Plays : {R : Type 0} → (Met → R → Type 0) → Play R → Type 0
-  Plays E p = From nothing_met E p
-
-  abbrev IsAt : Bool → SessionState → Type 0
-  IsAt refused s = IsAfter actor token o refused s
-
-  abbrev Is : SessionState → Type 0
-  Is s = IsAt false s
-
-  abbrev Like : SessionState → Type 0
-  Like s = IsLike actor token o s
-
-  abbrev Asks : Play (After SessionState Status) → Type 0
-  Asks p = Plays (AskEnds Like (EndsAs o)) p
-
-  abbrev pub Lines : Play (Next SessionState Status) → Type 0
-  Lines p = Plays (LineEnds IsAt (EndsAs o)) p
-
-  -- a state in which drafts came to the same
-  same-came : (refused : Bool) (s : SessionState) → Like s → IsAt refused s
-  same-came true s like = (like.0, tt)
-  same-came false s like = (like.0, λ is. sym like.1 ∙ is)
-
-  -- what follows an ask, by what that leaves
-  after-obeys : {B : Type 0} (Stays : SessionState → Type 0) (F : Met → B → Type 0) (p : Play (After SessionState Status)) (k : After SessionState Status → Play B) → Plays (AskEnds Stays (EndsAs o)) p
-      → ((s : SessionState) → Stays s → Plays F (k (On s))) → ((s : SessionState) → Stays s → Plays F (k (Over s))) → ((refused : Bool) (line : List ℕ) → From (false, refused) F (k (Refused line)))
-      → ((met : Met) (e : Status) → EndsSo (EndsAs o) met.0 e → From met F (k (Ended e))) → Plays F (bind p k)
-  after-obeys {B = B} Stays F p k obeys on over refused ended = bind-obeys (λ (met : Met). MayAsk actor token) met_by (AskEnds Stays (EndsAs o)) F nothing_met p k obeys each
-    where
-      each : (met : Met) (a : After SessionState Status) → AskEnds Stays (EndsAs o) met a → From met F (k a)
-      each (true, b) (On s) never = absurd never
-      each (false, true) (On s) never = absurd never
-      each (false, false) (On s) is = on s is
-      each (true, b) (Over s) never = absurd never
-      each (false, true) (Over s) never = absurd never
-      each (false, false) (Over s) is = over s is
-      each (true, b) (Refused line) never = absurd never
-      each (false, b) (Refused line) u = refused b line
-      each met (Ended e) is = ended met e is
-
-  -- ---- asks
-
-  -- changes that are committed, or refused
+module _ (actor : List ℕ) (token : ℕ) where
+  -- each commit of such a state is theirs
   commit-by : (s : SessionState) (changes : List Change) → IsOf actor token s → IsBy actor token (commit_of s changes)
   commit-by s changes of = record { actor_is = of.0; token_is = of.1 }
 
-  large-ends : (Stays : SessionState → Type 0) (b : Bool) (line : List ℕ) → AskEnds Stays (EndsAs o) (not b || false, b || false) (if b then Refused line else Ended status.BadRecord)
-  large-ends Stays true line = tt
-  large-ends Stays false line = refl
-
-  commit-ends : (Stays : SessionState → Type 0) (s : SessionState) (changes : List Change) (a : Attempt) → Stays s → AskEnds Stays (EndsAs o) (met_by nothing_met (Changes (commit_of s changes)) a) (after_commit s changes a)
-  commit-ends Stays s changes (Made committed.Done) is = is
-  commit-ends Stays s changes (Made (committed.Busy name)) is = tt
-  commit-ends Stays s changes (Made committed.NotARecord) is = refl
-  commit-ends Stays s changes (Made (committed.Changed name at)) is = tt
-  commit-ends Stays s changes (Made (committed.TooLarge name length)) is = large-ends Stays (is_changed (placed_changes s.here changes) name) (too_large _)
-  commit-ends Stays s changes (Made (committed.TooManyNames count)) is = tt
-  commit-ends Stays s changes (Misnamed file fault) is = tt
-
-  saved-obeys : (s : SessionState) (changes : List Change) → Like s → Asks (saved s changes)
-  saved-obeys s changes like = (commit-by s changes like.0, λ a. commit-ends Like s changes a like)
-
-  -- a file that is loaded, or refused before that
-  load-ends : (s : SessionState) (name : List ℕ) (f : Option Found) → Like s → AskEnds Like (EndsAs o) nothing_met (after_load s name f)
-  load-ends s name None like = tt
-  load-ends s name (Some (found.TooLarge n)) like = tt
-  load-ends s name (Some (found.Bytes None held)) like = tt
-  load-ends s name (Some (found.Bytes (Some text) held)) like = like
-
-  sourced-obeys : (s : SessionState) (name : List ℕ) (fault : Option (List ℕ)) → Like s → Asks (sourced s name fault)
-  sourced-obeys s name (Some line) like = tt
-  sourced-obeys s name None like = (tt, λ f. load-ends s name f like)
-
-  -- another file that is opened, or refused
-  switched-obeys : (s : SessionState) (name : List ℕ) (changes : List Change) (reply : List ℕ) (f : OrFault (List ℕ)) → Like s → Asks (switched_to s name changes reply f)
-  switched-obeys s name changes reply (Err line) like = tt
-  switched-obeys s name changes reply (Ok bytes) like = (
-    tt,
-    λ rows.
-        after-obeys Like (AskEnds Like (EndsAs o)) (saved s changes) (announced reply (switched s name bytes rows)) (saved-obeys s changes like)
-        (λ t l. (tt, λ u. l)) (λ t l. l) (λ refused line. tt) (λ met e is. is),
-  )
-
-  switches-obeys : (s : SessionState) (name : List ℕ) (changes : List Change) (reply : List ℕ) (fault : Option (List ℕ)) → Like s → Asks (switches s name changes reply fault)
-  switches-obeys s name changes reply (Some line) like = tt
-  switches-obeys s name changes reply None like = (tt, λ f. switched-obeys s name changes reply (loaded_folder s.desk changes name f) like)
-
-  -- mail that came meanwhile, or a refusal
-  taking-obeys : (s : SessionState) (f : OrFault (List ℕ)) → Like s → Asks (taking s f)
-  taking-obeys s (Err line) like = tt
-  taking-obeys s (Ok bytes) like = (tt, λ more. (tt, λ view. (tt, λ u. like)))
-
-  renews-obeys : (s : SessionState) (fault : Option (List ℕ)) → Like s → Asks (renews s fault)
-  renews-obeys s (Some line) like = tt
-  renews-obeys s None like = (tt, λ f. taking-obeys s (loaded_again s.desk f) like)
-
-  called-ends : (b : Bool) (t : SessionState) → Like t → AskEnds Like (EndsAs o) nothing_met (if b then On t else Refused calls_too_deep)
-  called-ends true t like = like
-  called-ends false t like = tt
-
-  -- a draft that begins, with its file and the message that is current then
-  begins-obeys : (b : Bool) (s : SessionState) (draft : Draft) → Like s → Asks (begins b s draft)
-  begins-obeys true s draft like = (tt, λ u. like)
-  begins-obeys false s draft like = like
-
-  moved-like : (b : Bool) (s : SessionState) (n : ℕ) → Like s → Like (if b then settled s (moved s.desk n) else s)
-  moved-like true s n like = like
-  moved-like false s n like = like
-
-  at-like : (s : SessionState) (current : Option ℕ) → Like s → Like (at_message s current)
-  at-like s None like = like
-  at-like s (Some n) like = moved-like (nat_le n (length s.desk.shown.rows)) s n like
-
-  beginning-obeys : (s : SessionState) (draft : Draft) (file : Option (List ℕ)) (current : Option ℕ) (fault : Option (List ℕ)) → Like s → Asks (beginning s draft file current fault)
-  beginning-obeys s draft file current (Some line) like = tt
-  beginning-obeys s draft file current None like =
-      after-obeys Like (AskEnds Like (EndsAs o)) (begun s draft) (placed file current) (begins-obeys (asks_subject (new_machine (flattened draft)) (view_in s)) s draft like)
-      (λ t l. l) (λ t l. at-like t current l) (λ refused line. tt) (λ met e is. is)
-
-  run-obeys : (s : SessionState) (a : Option ChildAnswer) → Like s → Asks (after_run s a)
-  run-obeys s None like = tt
-  run-obeys s (Some child) like = (tt, λ u. like)
-
-  -- a message that is edited, or refused
-  edited-as : (b : Bool) (s : SessionState) (n : ℕ) (text : List ℕ) → Like s → Asks (if b then Ret (Over (with_desk s (looked s.desk n))) else changing s n text)
-  edited-as true s n text like = like
-  edited-as false s n text like =
-      let change = edited_change s.desk.folder.name (edited_texts s.desk.folder.folder n text) in (
-        tt,
-        λ made. (
-          tt,
-          λ view.
-              after-obeys Like (AskEnds Like (EndsAs o)) (saved s (change ∷ [])) (told_edit (receipt s.desk.folder.name (codes "Edited") 1) (looked (with_texts s.desk (join (edited_texts s.desk.folder.folder n text)) (with_row s.desk.shown.rows n made) view) n))
-              (saved-obeys s (change ∷ []) like) (λ t l. (tt, λ u. l)) (λ t l. l) (λ refused line. tt) (λ met e is. is),
-        ),
-      )
-
-  edited-obeys : (s : SessionState) (n : ℕ) (f : OrFault (List ℕ)) → Like s → Asks (edited s n f)
-  edited-obeys s n (Err line) like = tt
-  edited-obeys s n (Ok text) like = edited-as (bytes_eq text (message_text s.desk n)) s n text like
-
-  edits-as : (b : Bool) (s : SessionState) (n : ℕ) (command : List ℕ) → Like s → Asks (if b then editing s n command else Ret (Refused none_applicable))
-  edits-as true s n command like = (tt, λ a. edited-obeys s n (judged a) like)
-  edits-as false s n command like = tt
-
-  -- a change that is gathered, or refused
-  gathers-ends : (fault : Option (List ℕ)) (s : SessionState) → Like s → AskEnds Like (EndsAs o) nothing_met (gathers s fault)
-  gathers-ends (Some line) s like = tt
-  gathers-ends None s like = like
-
-  -- one ask
-  ask-obeys : (s : SessionState) (ask : asked_of.Ask) → Like s → Asks (asked s ask)
-  ask-obeys s (asks.Say bytes) like = (tt, λ u. like)
-  ask-obeys s (asks.Commit changes) like = saved-obeys s changes like
-  ask-obeys s (asks.Gather name) like = gathers-ends (gather_fault s name) s like
-  ask-obeys s (asks.Source name) like = sourced-obeys s name (source_fault s name) like
-  ask-obeys s (asks.Lines text) like = called-ends (nat_lt (calls s.frames) call_limit) (with_lines kinds.Call s text) like
-  ask-obeys s (asks.Open name changes reply) like = switches-obeys s name changes reply (open_fault s name changes) like
-  ask-obeys s asks.Newmail like = renews-obeys s (folder_fault s) like
-  ask-obeys s (asks.View kind) like = (tt, λ view. like)
-  ask-obeys s (asks.Draft draft file current) like = beginning-obeys s draft file current (file_fault s file) like
-  ask-obeys s (asks.Child command input) like = (tt, λ a. run-obeys s a like)
-  ask-obeys s (asks.Edit number command) like = edits-as (is_number s.desk number) s number command like
-  ask-obeys s asks.Exit like = ap status_of like.1
-
-  -- asks in order
-  order-obeys : (s : SessionState) (l : List asked_of.Ask) → Like s → Asks (in_order asked s l)
-  order-obeys s [] like = like
-  order-obeys s (a ∷ rest) like =
-      after-obeys Like (AskEnds Like (EndsAs o)) (asked s a) (onward (λ (t : SessionState). in_order asked t rest)) (ask-obeys s a like)
-      (λ t l. order-obeys t rest l) (λ t l. l) (λ refused line. tt) (λ met e is. is)
-
-  -- a command
-  carried-obeys : (s : SessionState) (m : OrFault Steps) → Like s → Lines (carried_out s m)
-  carried-obeys s (Ok steps) like =
-      after-obeys Like (LineEnds IsAt (EndsAs o)) (in_order asked s steps.asks) (concluded s (λ (t : SessionState). settled t steps.effects)) (order-obeys s steps.asks like)
-      (λ t l. same-came false t l) (λ t l. same-came false t l) (λ refused line. (tt, λ u. same-came refused s like)) (λ met e is. is)
-  carried-obeys s (Err line) like = (tt, λ u. same-came false s like)
-
-  -- ---- lines from elsewhere
-
-  counted-obeys : (b : Bool) (s : SessionState) (line : WaitingLine) → Like s → Lines (if b then line_play line.origin (with_count s (s.count + 1)) line.text else dropped_play s)
-  counted-obeys true s line like = carried-obeys (with_count s (s.count + 1)) (commanded line.origin s.desk line.text) like
-  counted-obeys false s line like = (tt, λ u. same-came false s like)
-
-  outside-obeys : (b : Bool) (s : SessionState) (line : WaitingLine) → Like s → Lines (if b then Ret (Go s) else counted_play s line)
-  outside-obeys true s line like = same-came false s like
-  outside-obeys false s line like = counted-obeys (nat_lt s.count command_limit) s line like
-
-  defining-obeys : (b : Bool) (s : SessionState) (line : WaitingLine) → Like s → Lines (if b then line_play line.origin s line.text else outside_play s line)
-  defining-obeys true s line like = carried-obeys s (commanded line.origin s.desk line.text) like
-  defining-obeys false s line like = outside-obeys (is_empty line) s line like
-
-  pub waiting-obeys : (s : SessionState) (line : WaitingLine) → Like s → Lines (waiting_play s line)
-  waiting-obeys s line like = defining-obeys (is_uncounted s.desk) s line like
-
-  -- ---- what a draft needs
-
-  told-obeys : (s : SessionState) (n : Need) → Is s → Lines (told s n)
-  told-obeys s (need.Say bytes) of = (tt, λ u. of)
-  told-obeys s need.More of = of
-  told-obeys s (need.Load word) of = of
-  told-obeys s need.Dead of = of
-  told-obeys s (need.Child command input) of = of
-  told-obeys s (need.Edit command text) of = of
-  told-obeys s (need.Command line) of = of
-  told-obeys s (need.Put word bytes) of = of
-  told-obeys s need.Done of = of
-  told-obeys s need.Quit of = of
-  told-obeys s need.Drop of = of
-
-  answer-obeys : (s : SessionState) (r : Step) → Is s → Lines (took_answer s r)
-  answer-obeys s (Ok step) of = told-obeys (with_draft s (Some step.0)) step.1 of
-  answer-obeys s (Err e) of = (tt, λ u. of)
-
-  given-obeys : (s : SessionState) (draft : Option Machine) (a : answer_of.Answer) → Is s → Lines (given s draft a)
-  given-obeys s None a of = of
-  given-obeys s (Some m) a of = answer-obeys s (answer_step m a) of
-
-  fetch-obeys : (s : SessionState) (name : List ℕ) (f : Option Found) → Is s → Lines (after_fetch s name f)
-  fetch-obeys s name None of = (tt, λ u. of)
-  fetch-obeys s name (Some (found.TooLarge n)) of = (tt, λ u. of)
-  fetch-obeys s name (Some (found.Bytes None held)) of = (tt, λ u. of)
-  fetch-obeys s name (Some (found.Bytes (Some text) held)) of = given-obeys s s.draft (answer.Loaded text) of
-
-  named-obeys : (b : Bool) (s : SessionState) (name : List ℕ) → Is s → Lines (if b then Ask (Try (file_of s.here name)) (after_fetch s name) else refused s (bad_name name))
-  named-obeys true s name of = (tt, λ f. fetch-obeys s name f of)
-  named-obeys false s name of = (tt, λ u. of)
-
-  fetched-obeys : (s : SessionState) (name : OrFault (List ℕ)) → Is s → Lines (fetched s name)
-  fetched-obeys s (Ok name) of = named-obeys (is_short_name (file_of s.here name)) s name of
-  fetched-obeys s (Err line) of = (tt, λ u. of)
-
-  child-obeys : (s : SessionState) (a : Option ChildAnswer) → Is s → Lines (after_child s a)
-  child-obeys s None of = (tt, λ u. of)
-  child-obeys s (Some a) of = given-obeys s s.draft (answer.Ran a) of
-
-  edit-obeys : (s : SessionState) (a : Option EditAnswer) → Is s → Lines (after_edit s a)
-  edit-obeys s None of = (tt, λ u. of)
-  edit-obeys s (Some a) of = given-obeys s s.draft (answer.Edited a) of
-
-  put-obeys : (s : SessionState) (name : OrFault (List ℕ)) (bytes : List ℕ) → Like s → Lines (put s name bytes)
-  put-obeys s (Ok name) bytes like = carried-obeys s (Ok (written name bytes)) like
-  put-obeys s (Err line) bytes like = (tt, λ u. same-came false s like)
-
-  -- ---- the end of a draft
-
-  -- one change is committed for a draft
-  file-obeys : (b : Bool) (s : SessionState) (c : Change) (k : After SessionState Status → Play (Next SessionState Status)) → IsOf actor token s → From (false, b) (LineEnds IsAt (EndsAs o)) (k (On s))
-      → ((line : List ℕ) → From (false, true) (LineEnds IsAt (EndsAs o)) (k (Refused line))) → From (true, b) (LineEnds IsAt (EndsAs o)) (k (Ended status.BadRecord)) → From (false, b) (LineEnds IsAt (EndsAs o)) (bind (saved_one s c) k)
-  file-obeys b s c k of on refused ended = (commit-by s (c ∷ []) of, each)
-    where
-      large : (t : Bool) (line : List ℕ) → From (not t || false, t || b) (LineEnds IsAt (EndsAs o)) (k (if t then Refused line else Ended status.BadRecord))
-      large true line = refused line
-      large false line = ended
-
-      each : (a : Attempt) → From (met_by (false, b) (Changes (commit_of s (c ∷ []))) a) (LineEnds IsAt (EndsAs o)) (k (after_commit s (c ∷ []) a))
-      each (Made committed.Done) = on
-      each (Made (committed.Busy name)) = refused _
-      each (Made committed.NotARecord) = ended
-      each (Made (committed.Changed name at)) = refused _
-      each (Made (committed.TooLarge name length)) = large (is_changed (placed_changes s.here (c ∷ [])) name) _
-      each (Made (committed.TooManyNames count)) = refused _
-      each (Misnamed name fault) = refused _
-
-  burying-obeys : (b : Bool) (s : SessionState) (c : Option Change) → IsAt b s → From (false, b) (LineEnds IsAt (EndsAs o)) (burying s c)
-  burying-obeys b s None of = of
-  burying-obeys b s (Some c) of = file-obeys b s c (buried s (name_of c)) of.0 (tt, λ u. of) (λ line. (tt, λ u. (of.0, tt))) refl
-
-  lost-obeys : (b : Bool) (s : SessionState) (d : Draft) (m : Moment) → IsAt b s → From (false, b) (LineEnds IsAt (EndsAs o)) (lost s (letter_of d m))
-  lost-obeys b s d m of = burying-obeys b s (dead s.desk (text_of s (letter_of d m))) of
-
-  unsent-obeys : (b : Bool) (s : SessionState) (d : Draft) (m : Moment) (line : List ℕ) → IsAt b s → From (false, b) (LineEnds IsAt (EndsAs o)) (unsent s (letter_of d m) line)
-  unsent-obeys b s d m line of = (tt, λ u. lost-obeys b s d m of)
-
-  -- a draft that wasn't sent wasn't refused by that
-  never-refused : (n : Option ℤ) (now : Outcome) → not_sent n now ≡ outcome.Refused → now ≡ outcome.Refused
-  never-refused n outcome.Fine is = absurd (cc is)
-  never-refused n (outcome.NotSent m) is = absurd (cc is)
-  never-refused n outcome.Refused is = refl
-  never-refused n outcome.Unrecorded is = absurd (cc is)
-
-  unsent-by-obeys : (n : Option ℤ) (s : SessionState) (d : Draft) (m : Moment) (line : List ℕ) → Is s → Lines (unsent (unsent_by n s) (letter_of d m) line)
-  unsent-by-obeys n s d m line of = unsent-obeys false (unsent_by n s) d m line (of.0, λ is. of.1 (never-refused n s.outcome is))
-
-  sender-obeys : (s : SessionState) (d : Draft) (m : Moment) (x : Result (List ℕ) SendError) → Is s → Lines (after_sender s (letter_of d m) x)
-  sender-obeys s d m (Ok output) of = (tt, λ u. of)
-  sender-obeys s d m (Err (send.Refused n output)) of = unsent-by-obeys (Some n) s d m (output ++ sender_ended n) of
-  sender-obeys s d m (Err send.NoRecipients) of = unsent-by-obeys None s d m sender_not_run of
-  sender-obeys s d m (Err (send.NotAnAddress name)) of = unsent-by-obeys None s d m sender_not_run of
-  sender-obeys s d m (Err send.Child) of = unsent-by-obeys None s d m sender_not_run of
-  sender-obeys s d m (Err send.Memory) of = unsent-by-obeys None s d m sender_not_run of
-
-  sending-obeys : (s : SessionState) (d : Draft) (m : Moment) (names : List (List ℕ)) → Is s → Lines (sending s (letter_of d m) names)
-  sending-obeys s d m names of = (tt, λ a. sender-obeys s d m (sent a) of)
-
-  recording-obeys : (s : SessionState) (d : Draft) (m : Moment) (names : List (List ℕ)) (c : OrFault (Option Change)) → Is s → Lines (recording s (letter_of d m) names c)
-  recording-obeys s d m names (Err line) of = unsent-obeys false (unrecorded s) d m line (of.0, λ is. absurd (cc is))
-  recording-obeys s d m names (Ok None) of = sending-obeys s d m names of
-  recording-obeys s d m names (Ok (Some c)) of =
-      file-obeys false s c (after_record s (letter_of d m) names) of.0 (sending-obeys s d m names of) (λ line. unsent-obeys true (refused_by s) d m line (of.0, tt)) refl
-
-  posting-obeys : (s : SessionState) (file : Option (List ℕ)) (d : Draft) (m : Moment) (names : List (List ℕ)) (line : Option (List ℕ)) → Is s → Lines (posting s file (letter_of d m) names line)
-  posting-obeys s file d m names (Some line) of = unsent-by-obeys None s d m line of
-  posting-obeys s file d m names None of = recording-obeys s d m names (recorded s.desk (text_of s (letter_of d m)) s.by_recipient file names) of
-
-  addressing-obeys : (s : SessionState) (file : Option (List ℕ)) (draft : Draft) (m : Moment) (a : Option Recipients) → Is s → Lines (addressing s file draft m a)
-  addressing-obeys s file draft m None of = unsent-by-obeys None s draft m too_many_recipients of
-  addressing-obeys s file draft m (Some a) of = posting-obeys s file (addressed draft a) m a.all (names_refused a.all) of
-
-  ended-as : (s : SessionState) (d : Option Machine) → Is s → Lines (ended s d)
-  ended-as s None of = of
-  ended-as s (Some machine) of = (tt, λ m. addressing-obeys (without_draft s) s.file machine.draft m (addressees s.desk machine.draft) of)
-
-  pub ended-obeys : (s : SessionState) → Is s → Lines (ended_draft s)
-  ended-obeys s of = ended-as s s.draft of
-
-  given-up-obeys : (b : Bool) (s : SessionState) (draft : Draft) → Is s → Lines (if b then Ret (Go s) else Ask (Now s.desk.places.tz) (λ m. lost s (letter_of draft m)))
-  given-up-obeys true s draft of = of
-  given-up-obeys false s draft of = (tt, λ m. lost-obeys false s draft m of)
-
-  quitted-obeys : (s : SessionState) (d : Option Machine) → Is s → Lines (quitted s d)
-  quitted-obeys s None of = of
-  quitted-obeys s (Some machine) of = given-up-obeys (length machine.draft.body == 0) (without_draft s) machine.draft of
-
-  -- ---- a line of the input
-
-  needed-obeys : (s : SessionState) (n : Need) → Like s → Lines (needed s n)
-  needed-obeys s need.More like = same-came false s like
-  needed-obeys s (need.Say bytes) like = (tt, λ u. same-came false s like)
-  needed-obeys s (need.Load word) like = fetched-obeys s (expanded s.desk word) (same-came false s like)
-  needed-obeys s need.Dead like = fetched-obeys s (Ok s.desk.places.dead) (same-came false s like)
-  needed-obeys s (need.Child command input) like = (tt, λ a. child-obeys s a (same-came false s like))
-  needed-obeys s (need.Edit command text) like = (tt, λ a. edit-obeys s a (same-came false s like))
-  needed-obeys s (need.Command line) like = carried-obeys s (commanded origin.Draft s.desk line) like
-  needed-obeys s (need.Put word bytes) like = put-obeys s (expanded s.desk word) bytes like
-  needed-obeys s need.Done like = ended-obeys s (same-came false s like)
-  needed-obeys s need.Quit like = quitted-obeys s s.draft (same-came false s like)
-  needed-obeys s need.Drop like = same-came false s like
-
-  line-obeys : (s : SessionState) (r : Step) → Like s → Lines (took_line s r)
-  line-obeys s (Ok step) like = needed-obeys (with_draft s (Some step.0)) step.1 like
-  line-obeys s (Err e) like = (tt, λ u. same-came false s like)
-
-  drafted-obeys : (s : SessionState) (draft : Option Machine) (line : List ℕ) → Like s → Lines (drafted s draft line)
-  drafted-obeys s None line like = same-came false s like
-  drafted-obeys s (Some m) line like = line-obeys s (line_step m line (view_in s)) like
-
-  rested-as : (b : Bool) (s : SessionState) → Like s → Like (if b then s else at_rest s)
-  rested-as true s like = like
-  rested-as false s like = like
-
-  rested-like : (s : SessionState) → Like s → Like (rested s)
-  rested-like s like = rested-as (is_drafting s) s like
-
-  typed-as : (b : Bool) (s : SessionState) (line : List ℕ) → Like s → Lines (if b then draft_play s line else command_play s line)
-  typed-as true s line like = drafted-obeys (released s) (released s).draft line like
-  typed-as false s line like = carried-obeys (with_count (rested s) 1) (commanded origin.Input (rested s).desk line) (rested-like s like)
-
-  pub typed-obeys : (s : SessionState) (line : List ℕ) → Like s → Lines (typed_play s line)
-  typed-obeys s line like = typed-as (is_drafting s) s line like
-
-  -- ---- the folder is left, and the start-up files
-
-  left-ended : (met : Met) (e : Status) → EndsSo (EndsAs o) met.0 e → EndsSo (LeavesAs o) met.0 e
-  left-ended (true, b) e is = is
-  left-ended (false, b) e is = inl is
-
-  pub leaving-obeys : (s : SessionState) → Like s → Plays (RunEnds (LeavesAs o)) (leaving s)
-  leaving-obeys s like =
-      after-obeys Like (RunEnds (LeavesAs o)) (in_order asked s (quit s.desk).asks) left_by (order-obeys s (quit s.desk).asks like)
-      (λ t l. inl (ap status_of l.1)) (λ t l. inl (ap status_of l.1)) (λ refused line. (tt, λ u. inr refl)) left-ended
-
-  startup-ends : (s : SessionState) (name : List ℕ) (f : Option Found) → Is s → Lines (after_startup s name f)
-  startup-ends s name None of = (tt, λ u. of)
-  startup-ends s name (Some (found.TooLarge n)) of = (tt, λ u. of)
-  startup-ends s name (Some (found.Bytes None held)) of = of
-  startup-ends s name (Some (found.Bytes (Some text) held)) of = of
-
-  startup-as : (b : Bool) (s : SessionState) (name : List ℕ) → Is s → Lines (if b then Ask (Try (file_of s.here name)) (after_startup s name) else refused s (bad_name name))
-  startup-as true s name of = (tt, λ f. startup-ends s name f of)
-  startup-as false s name of = (tt, λ u. of)
-
-  pub startup-obeys : (s : SessionState) (name : List ℕ) → Is s → Lines (startup_play s name)
-  startup-obeys s name of = startup-as (is_short_name (file_of s.here name)) s name of
-
-  -- ---- what is read off that
-
-  pub next-of : (met : Met) (n : Next SessionState Status) → LineEnds IsAt (EndsAs o) met n → NextOf actor token n
-  next-of (true, b) (Go s) never = absurd never
-  next-of (false, b) (Go s) of = of.0
-  next-of met (Last e) is = tt
+  ask-by : (s : SessionState) (a : asked_of.Ask) → IsOf actor token s → walk.AskCommits (IsBy actor token) s a
+  ask-by s (asks.Say bytes) of = tt
+  ask-by s (asks.Commit changes) of = commit-by s changes of
+  ask-by s (asks.Gather name) of = tt
+  ask-by s (asks.Source name) of = tt
+  ask-by s (asks.Lines text) of = tt
+  ask-by s (asks.Open name changes reply) of = commit-by s changes of
+  ask-by s asks.Newmail of = tt
+  ask-by s (asks.View kind) of = tt
+  ask-by s (asks.Draft draft file current) of = tt
+  ask-by s (asks.Child command input) of = tt
+  ask-by s (asks.Edit number command) of = tt
+  ask-by s asks.Exit of = tt
+
+  asks-by : (s : SessionState) (l : List asked_of.Ask) → IsOf actor token s → walk.AsksCommit (AreThese actor token) (IsBy actor token) s l
+  asks-by s [] of = tt
+  asks-by s (a ∷ rest) of = (ask-by s a of, λ t after. asks-by t rest after)
+
+  steps-by : (s : SessionState) (m : OrFault Steps) → IsOf actor token s → walk.StepsCommit (AreThese actor token) (IsBy actor token) s m
+  steps-by s (Ok steps) of = asks-by s steps.asks of
+  steps-by s (Err line) of = tt
+
+  change-by : (s : SessionState) (c : Option Change) → IsOf actor token s → walk.ChangeCommits (IsBy actor token) s c
+  change-by s (Some c) of = commit-by s (c ∷ []) of
+  change-by s None of = tt
+
+  found-by : (s : SessionState) (c : OrFault (Option Change)) → IsOf actor token s → walk.FoundCommits (IsBy actor token) s c
+  found-by s (Ok c) of = change-by s c of
+  found-by s (Err line) of = tt
+
+  all-by : walk.Allows (AreThese actor token) (IsBy actor token)
+  all-by = record {
+    commands = λ s from line of. steps-by s (commanded from s.desk line) of;
+    quits = λ s of. asks-by s (quit s.desk).asks of;
+    edits = λ s n text of number is. record { actor_is = of.0; token_is = of.1 };
+    writes = λ s name bytes of. record { actor_is = of.0; token_is = of.1 };
+    records = λ s d m file names of. found-by s (recorded s.desk (text_of s (letter_of d m)) s.by_recipient file names) of;
+    buries = λ s d m of. change-by s (dead s.desk (text_of s (letter_of d m))) of;
+    opens = λ s t changes name f bytes of is. of;
+    grows = λ s f bytes of is. of;
+    joins = λ s t n text of to is. to;
+  }
+
+module _ (actor : List ℕ) (token : ℕ) (o : Outcome) where
+  abbrev pub Plays : {R : Type 0} → (Met → R → Type 0) → Play R → Type 0
+  Plays E p = Obeys (λ (met : Met). MayAsk actor token) met_by E nothing_met p
+
+  abbrev pub Lines : Play (Next SessionState Status) → Type 0
+  Lines p = Plays (LineEnds (IsAfter actor token o) (EndsAs o)) p
+
+  pub waiting-obeys : (s : SessionState) (line : WaitingLine) → IsLike actor token o s → Lines (waiting_play s line)
+  waiting-obeys s line like = walk.waiting-obeys (AreThese actor token) (IsBy actor token) (all-by actor token) o s line like
+
+  pub ended-obeys : (s : SessionState) → IsAfter actor token o false s → Lines (ended_draft s)
+  ended-obeys s of = walk.ended-obeys (AreThese actor token) (IsBy actor token) (all-by actor token) o s of
+
+  pub typed-obeys : (s : SessionState) (line : List ℕ) → IsLike actor token o s → Lines (typed_play s line)
+  typed-obeys s line like = walk.typed-obeys (AreThese actor token) (IsBy actor token) (all-by actor token) o s line like
+
+  pub leaving-obeys : (s : SessionState) → IsLike actor token o s → Plays (RunEnds (LeavesAs o)) (leaving s)
+  leaving-obeys s like = walk.leaving-obeys (AreThese actor token) (IsBy actor token) (all-by actor token) o s like
+
+  pub startup-obeys : (s : SessionState) (name : List ℕ) → IsAfter actor token o false s → Lines (startup_play s name)
+  startup-obeys s name of = walk.startup-obeys (AreThese actor token) (IsBy actor token) (all-by actor token) o s name of
 
   -- a line leaves a state of its actor and token
   pub lines-of : (p : Play (Next SessionState Status)) → Lines p → AllEnds (NextOf actor token) p
-  lines-of p obeys = obeys-ends (λ (met : Met). MayAsk actor token) met_by (LineEnds IsAt (EndsAs o)) (NextOf actor token) next-of nothing_met p obeys
+  lines-of p obeys = walk.lines-of (AreThese actor token) (IsBy actor token) (all-by actor token) o p obeys
 
 -- a state at rest
 pub rested-of : (actor : List ℕ) (token : ℕ) (s : SessionState) → IsOf actor token s → IsOf actor token (rested s)
-rested-of actor token s of = (rested-like actor token s.outcome s (of, refl)).0
+rested-of actor token s of = walk.rested-of (AreThese actor token) s of
 
 -- an act that a line may ask commits for its actor under its token
 pub commits-so : (actor : List ℕ) (token : ℕ) (act : Act) → MayAsk actor token act → OfCommit (IsBy actor token) act
-commits-so actor token (Line i) never = absurd never
-commits-so actor token (Say bytes) u = tt
-commits-so actor token (Read name) never = absurd never
-commits-so actor token (Try name) u = tt
-commits-so actor token (Changes c) by = by
-commits-so actor token (Recover a t) never = absurd never
-commits-so actor token (Child program args input) u = tt
-commits-so actor token (Editor name shell command text) u = tt
-commits-so actor token (Now tz) u = tt
-commits-so actor token (Know texts) u = tt
+commits-so actor token act may = walk.commits-so (IsBy actor token) act may

@@ -20,12 +20,14 @@ Obeys may to end x (Ask act go) = may x act × ((answer : Answer act) → Obeys 
 
 module _ {X : Type 0} (may : X → Act → Type 0) (to : X → (act : Act) → Answer act → X) where
   -- one play after another
-  pub bind-obeys : {A B : Type 0} (E : X → A → Type 0) (F : X → B → Type 0) (x : X) (p : Play A) (k : A → Play B) → Obeys may to E x p → ((y : X) (a : A) → E y a → Obeys may to F y (k a)) → Obeys may to F x (bind p k)
+  pub bind-obeys : {A B : Type 0} (E : X → A → Type 0) (F : X → B → Type 0) (x : X) (p : Play A) (k : A → Play B) → Obeys may to E x p
+      → ((y : X) (a : A) → E y a → Obeys may to F y (k a)) → Obeys may to F x (bind p k)
   bind-obeys E F x (Ret a) k obeys more = more x a obeys
   bind-obeys E F x (Ask act go) k obeys more = (obeys.0, λ answer. bind-obeys E F (to x act answer) (go answer) k (obeys.1 answer) more)
 
   -- weaker rules
-  pub obeys-weaker : {R : Type 0} (might : X → Act → Type 0) (E F : X → R → Type 0) → ((x : X) (act : Act) → may x act → might x act) → ((x : X) (r : R) → E x r → F x r) → (x : X) (p : Play R) → Obeys may to E x p → Obeys might to F x p
+  pub obeys-weaker : {R : Type 0} (might : X → Act → Type 0) (E F : X → R → Type 0) → ((x : X) (act : Act) → may x act → might x act)
+      → ((x : X) (r : R) → E x r → F x r) → (x : X) (p : Play R) → Obeys may to E x p → Obeys might to F x p
   obeys-weaker might E F acts ends x (Ret r) obeys = ends x r obeys
   obeys-weaker might E F acts ends x (Ask act go) obeys = (acts x act obeys.0, λ answer. obeys-weaker might E F acts ends (to x act answer) (go answer) (obeys.1 answer))
 

@@ -52,13 +52,16 @@ Ends = Result (Next SessionState Status) Stop
 -- ---- the meaning of a call, turn by turn
 
 -- a play with what it leads to
-turned : (p : Play (Next SessionState Status)) (turn : SessionState → Turn) (x : TurnPlay) → x ≡ bind p (on_to turn) → (t : SessionState) (es : List Event) → Goes p es (Ok (Go t)) → Goes x es (Ok (Go (turn t)))
+turned : (p : Play (Next SessionState Status)) (turn : SessionState → Turn) (x : TurnPlay) → x ≡ bind p (on_to turn)
+    → (t : SessionState) (es : List Event) → Goes p es (Ok (Go t)) → Goes x es (Ok (Go (turn t)))
 turned p turn x is t es goes = subst (λ (q : TurnPlay). Goes q es (Ok (Go (turn t)))) (sym is) (goes-as p (on_to turn) (Go t) (Go (turn t)) es refl goes)
 
-turned-last : (p : Play (Next SessionState Status)) (turn : SessionState → Turn) (x : TurnPlay) → x ≡ bind p (on_to turn) → (e : Status) (es : List Event) → Goes p es (Ok (Last e)) → Goes x es (Ok (Last (Last e)))
+turned-last : (p : Play (Next SessionState Status)) (turn : SessionState → Turn) (x : TurnPlay) → x ≡ bind p (on_to turn)
+    → (e : Status) (es : List Event) → Goes p es (Ok (Last e)) → Goes x es (Ok (Last (Last e)))
 turned-last p turn x is e es goes = subst (λ (q : TurnPlay). Goes q es (Ok (Last (Last e)))) (sym is) (goes-as p (on_to turn) (Last e) (Last (Last e)) es refl goes)
 
-turned-cut : (p : Play (Next SessionState Status)) (turn : SessionState → Turn) (x : TurnPlay) → x ≡ bind p (on_to turn) → (cause : Stop) (es : List Event) → Goes p es (Err cause) → Goes x es (Err cause)
+turned-cut : (p : Play (Next SessionState Status)) (turn : SessionState → Turn) (x : TurnPlay) → x ≡ bind p (on_to turn)
+    → (cause : Stop) (es : List Event) → Goes p es (Err cause) → Goes x es (Err cause)
 turned-cut p turn x is cause es goes = subst (λ (q : TurnPlay). Goes q es (Err cause)) (sym is) (goes-cut p (on_to turn) cause es goes)
 
 waiting-loop : {s : SessionState} {es : List Event} {out : Ends} → WaitingGo s es out → Loop turn_play (Waiting s) es out
@@ -81,11 +84,13 @@ startup-loop : (s : SessionState) (name : List ℕ) {es : List Event} {out : End
 startup-loop s name (begun {t = t} front rest is goes waits) = again front rest is (turned (startup_play s name) Waiting (turn_play (Starting s name)) refl t front goes) (waiting-loop waits)
 startup-loop s name {es = es} (unread {cause = cause} goes) = cut (turned-cut (startup_play s name) Waiting (turn_play (Starting s name)) refl cause es goes)
 
-composing-loop : {A : Type 0} (s t : SessionState) (draft : Draft) (r : Result A RunError) (es : List Event) → Goes (composing s draft) es (in_play (λ (a : A). t) r) → Loop turn_play (Composing s draft) es (in_play (λ (a : A). Go t) r)
+composing-loop : {A : Type 0} (s t : SessionState) (draft : Draft) (r : Result A RunError) (es : List Event)
+    → Goes (composing s draft) es (in_play (λ (a : A). t) r) → Loop turn_play (Composing s draft) es (in_play (λ (a : A). Go t) r)
 composing-loop s t draft (Ok a) es goes = last (goes-as (composing s draft) (λ t. Ret (Last (Go t))) t (Last (Go t)) es refl goes)
 composing-loop s t draft (Err e) es goes = cut (goes-cut (composing s draft) (λ t. Ret (Last (Go t))) _ es goes)
 
-leaving-loop : (s : SessionState) (r : Result Status RunError) (es : List Event) → Goes (leaving s) es (in_play (λ (e : Status). e) r) → Loop turn_play (Leaving s) es (in_play (λ (e : Status). Last e) r)
+leaving-loop : (s : SessionState) (r : Result Status RunError) (es : List Event) → Goes (leaving s) es (in_play (λ (e : Status). e) r)
+    → Loop turn_play (Leaving s) es (in_play (λ (e : Status). Last e) r)
 leaving-loop s (Ok e) es goes = last (goes-as (leaving s) (λ e. Ret (Last (Last e))) e (Last (Last e)) es refl goes)
 leaving-loop s (Err e) es goes = cut (goes-cut (leaving s) (λ e. Ret (Last (Last e))) _ es goes)
 
@@ -201,7 +206,8 @@ left-then : (s t : SessionState) (front rest es : List Event) (r : Result Status
 left-then s t front rest es r same is finishes goes =
     subst (λ (l : List Event). Loop turn_play (Finishing s) l (in_play (λ (e : Status). Last e) r)) (sym is)
     (finish-leads finishes rest (in_play (λ (e : Status). Last e) r)
-    (again [] rest refl (subst (λ (q : TurnPlay). Goes q [] (Ok (Go (Leaving t)))) (sym (over-turn t (finish-over finishes refl) (finish-rests same finishes))) (refl, inl refl)) (leaving-loop t r rest goes)))
+    (again [] rest refl (subst (λ (q : TurnPlay). Goes q [] (Ok (Go (Leaving t))))
+    (sym (over-turn t (finish-over finishes refl) (finish-rests same finishes))) (refl, inl refl)) (leaving-loop t r rest goes)))
 
 input-loop : (s : SessionState) (r : Result Status RunError) (es : List Event) → rested s ≡ s → InputEnds s es (in_play (λ (e : Status). e) r)
     → Loop turn_play (Finishing s) es (in_play (λ (e : Status). Last e) r)
@@ -231,7 +237,8 @@ module _ (actor : List ℕ) (token : ℕ) where
   Turns p = Obeys MayTurn met_by TurnEnds nothing_met p
 
   -- a line, and the turn that follows it
-  then-turns : (o : Outcome) (p : Play (Next SessionState Status)) (turn : SessionState → Turn) → ((s : SessionState) → IsOf actor token s → TurnOf (turn s)) → Lines actor token o p → Turns (bind p (on_to turn))
+  then-turns : (o : Outcome) (p : Play (Next SessionState Status)) (turn : SessionState → Turn)
+      → ((s : SessionState) → IsOf actor token s → TurnOf (turn s)) → Lines actor token o p → Turns (bind p (on_to turn))
   then-turns o p turn to obeys = bind-obeys MayTurn met_by (LineEnds (IsAfter actor token o) (EndsAs o)) TurnEnds nothing_met p (on_to turn) obeys each
     where
       each : (met : Met) (n : Next SessionState Status) → LineEnds (IsAfter actor token o) (EndsAs o) met n → Obeys MayTurn met_by TurnEnds met (on_to turn n)
@@ -325,7 +332,8 @@ module _ (actor : List ℕ) (token : ℕ) where
   finish-goes-on of (left drafting goes) = tt
   finish-goes-on of (lost drafting goes) = tt
 
-  composing-goes-on : {A : Type 0} (s t : SessionState) (draft : Draft) (r : Result A RunError) (es : List Event) → IsOf actor token s → Goes (composing s draft) es (in_play (λ (a : A). t) r) → GoesOnOf (in_play (λ (a : A). Go t) r)
+  composing-goes-on : {A : Type 0} (s t : SessionState) (draft : Draft) (r : Result A RunError) (es : List Event) → IsOf actor token s
+      → Goes (composing s draft) es (in_play (λ (a : A). t) r) → GoesOnOf (in_play (λ (a : A). Go t) r)
   composing-goes-on s t draft (Ok a) es of goes =
       goes-ends (IsOf actor token) (composing s draft) es t (composing-of (asks_subject (new_machine (flattened draft)) (view_in s)) (with_new_draft s draft) of) goes
   composing-goes-on s t draft (Err e) es of goes = tt
@@ -373,7 +381,8 @@ module _ {H : Type 0} (w : World H) (old new : H) (s : SessionState) (fits : s.t
       → IsSafeCall w old new s (Composing s draft) (in_play (λ (a : A). Go t) result)
   compose-safe t draft result ran = λ before es at to may.
       let r = Ran-since before es ran at to in
-      turn-safe s.actor s.token (Composing s draft) _ es _ fits (refl, refl) r.0 may (composing-loop s t draft result (own es) r.1) (composing-goes-on s.actor s.token s t draft result (own es) (refl, refl) r.1)
+      turn-safe s.actor s.token (Composing s draft) _ es _ fits (refl, refl) r.0 may (composing-loop s t draft result (own es) r.1)
+      (composing-goes-on s.actor s.token s t draft result (own es) (refl, refl) r.1)
 
   left-on : (r : Result Status RunError) → GoesOnOf s.actor s.token (in_play (λ (e : Status). Last e) r)
   left-on (Ok e) = tt

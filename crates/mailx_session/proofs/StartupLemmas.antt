@@ -1,5 +1,5 @@
 -- Lines of start-up files: all that wait are such lines, and after each the session goes on.
-use Rattle.std.proofs.Common.{◌≡◌, ℕ, true, List, [], ◌∷◌, ◌++◌, length, refl, sym, subst}
+use Rattle.std.proofs.Common.{◌≡◌, ℕ, true, List, length, sym, subst}
 use Rattle.std.specs.Prelude.{◌≢◌, IfOk, IfErr}
 use Rattle.std.specs.List.{list_all}
 use Rattle.std.specs.declared.option.Option.TheVariants.{Some}
@@ -16,15 +16,14 @@ use Rattle.session_state.specs.declared.error.RunError.{RunError}
 use Rattle.session_state.specs.declared.error.RunError.TheVariants as error
 use Rattle.session_state.specs.declared.flow.Flow.{Flow}
 use Rattle.session_state.specs.declared.frames.WaitingLine.{WaitingLine}
-use Rattle.session_state.specs.declared.kinds.FrameKind.TheVariants as kind
 use Rattle.session_state.specs.declared.state.SessionState.{SessionState}
 use Rattle.session_state.specs.Waits.{Pending}
-use Rattle.session_state.specs.Pending.{frame_of, capped}
+use Rattle.session_state.specs.Pending.{capped}
 use Rattle.session_state.specs.Bringing.{origin_at, AllFrom}
-use Rattle.session_state.specs.States.{IsSession, next_waiting}
+use Rattle.session_state.specs.States.{next_waiting}
 use Rattle.session_state.specs.Answers.{EndsByLine, EndsFrom, GoesOn, IsNoDiskFault}
 use Rattle.session_state.proofs.OriginLemmas.{TookFrom, taken-from, all-capped}
-use Rattle.mailx_session.specs.Startup.{with_startup, WaitsInStartup}
+use Rattle.mailx_session.specs.Startup.{WaitsInStartup}
 use Rattle.mailx_session.proofs.RoundLemmas.{next-taken, next-undrafting}
 
 -- where the session goes on, the line ends as one from anywhere may
@@ -55,17 +54,9 @@ pub spares-disk : {T : Type 0} (r : Result T RunError) → IfErr r IsNoDiskFault
 spares-disk (Ok t) no_disk = tt
 spares-disk (Err e) no_disk = λ same. subst IsNoDiskFault same no_disk
 
--- between two lines none waits, unless a draft is open
-pub session_waits : (s t : SessionState) → t ≡ s → IsSession s → WaitsInStartup t
-session_waits s t same is = subst WaitsInStartup (sym same) (λ out. subst (AllFrom Startup) (sym (is.frames out)) tt)
-
--- the lines of a start-up file wait alone then
-pub brought_waits : (s t : SessionState) (text : List ℕ) → t ≡ with_startup s text → IsSession s → WaitsInStartup t
-brought_waits s t text same is =
-    subst WaitsInStartup (sym same) (λ out. subst (λ (fs : List Pending). AllFrom Startup (fs ++ frame_of Startup kind.Startup (length s.desk.conditions) text ∷ [])) (sym (is.frames out)) (refl, tt))
-
 -- the line that is carried out next is one of a start-up file
-pub startup-next : (s : SessionState) (line : WaitingLine) (left : List Pending) → WaitsInStartup s → next_waiting s ≡ Some (line, left) → (line.origin ≡ Startup) × (origin_at left ≡ Startup) × AllFrom Startup left
+pub startup-next : (s : SessionState) (line : WaitingLine) (left : List Pending) → WaitsInStartup s → next_waiting s ≡ Some (line, left)
+    → (line.origin ≡ Startup) × (origin_at left ≡ Startup) × AllFrom Startup left
 startup-next s line left waits is =
     subst (TookFrom Startup) (next-taken s line left is)
     (taken-from Startup (capped (length s.desk.conditions) s.frames) (all-capped Startup (length s.desk.conditions) s.frames (waits (next-undrafting s line left is))))

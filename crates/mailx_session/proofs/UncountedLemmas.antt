@@ -21,7 +21,7 @@ use Rattle.command_desk.specs.declared.desk.Desk.{Desk}
 use Rattle.command_desk.specs.Answers.{next, unless, quietly}
 use Rattle.command_desk.specs.Effects.{unchanged}
 use Rattle.command_desk.specs.Faults.{bad_arguments}
-use Rattle.setting_commands.specs.Conditions.{turns_or_fault, opening, turning_alone}
+use Rattle.desk_commands.specs.Conditions.{turns_or_fault, opening, turning_alone}
 use Rattle.read_commands.specs.declared.origin.Origin.{Origin}
 use Rattle.read_commands.specs.Commands.{name_of, takes_no_words, meaning, meaning_of, read_or_fault}
 use Rattle.read_commands.specs.Origins.{line_of_origin, allowed, read_from, is_condition, turns_lines, is_defining, commanded, commanded_outside}

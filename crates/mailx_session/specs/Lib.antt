@@ -1,5 +1,6 @@
 pub mod Sessions
 pub mod Drafting
+pub mod Fetching
 pub mod Taking
 pub mod Leaving
 pub mod Rounds

@@ -3,6 +3,7 @@
 #![tactic(auto)]
 
 mod drafting;
+mod fetching;
 mod finishing;
 mod leaving;
 mod lines;

@@ -49,7 +49,7 @@ use Rattle.mailx_top.specs.declared.environment.Environment.{Environment}
 use Rattle.mailx_top.specs.declared.words.Manner.{Manner}
 use Rattle.mailx_top.specs.declared.words.Manner.TheVariants.{Silent, Rows, Quiet, Greeting}
 use Rattle.mailx_top.specs.Alike.{RunsAreAlike}
-use Rattle.mailx_top.specs.Meaning.{RunState, at_prompt, is_over, next_unless, recovered, recovering, says_any, Recovering, Preparing, prepared, with_files, next_file, file_round, Opening, opening, folder_name, with_name_or_fault, ends_with, begun, loaded, unheld, is_no_mail, with_list, greeted, Reading, Finishing, Leaving, round, turn, line_round, finishing_round, with_input, with_finishing, prompted, actor_in}
+use Rattle.mailx_top.specs.Meaning.{RunState, at_prompt, is_over, next_unless, recovered, recovering, says_any, Recovering, Preparing, prepared, with_files, next_file, file_round, Opening, opening, folder_name, with_name_or_fault, ends_with, begun, loaded, unheld, is_no_mail, with_list, greeted, Reading, Finishing, Leaving, round, turn, line_round, finishing_round, with_input, with_finishing, prompted, actor_said}
 use Rattle.mailx_top.specs.RecoveryLines.{heard_recovery}
 use Rattle.mailx_top.specs.Runs.{AsFar, SaysLast, SaysAtEnd, Ending}
 use Rattle.mailx_top.specs.Sending.{draft_with}
@@ -126,7 +126,8 @@ turn-alike : (s : SessionState) (i j : Input) (l : Option (List ℕ)) → Rounds
 turn-alike s i j None = behind-alike (is_drafting s) s i j
 turn-alike s i j (Some l) = then-alike (NextAlike Same) i j (typed_play s l) (with_input i) (with_input j) (typed-none s l) (input-alike i j)
 
-next-alike : (b : Bool) (s : SessionState) (i j : Input) → Rounds i j (bind (prompted b s.desk) (λ u. Ask (Line i) (λ a. turn s a.1 a.0))) (bind (prompted b s.desk) (λ u. Ask (Line j) (λ a. turn s a.1 a.0)))
+next-alike : (b : Bool) (s : SessionState) (i j : Input)
+    → Rounds i j (bind (prompted b s.desk) (λ u. Ask (Line i) (λ a. turn s a.1 a.0))) (bind (prompted b s.desk) (λ u. Ask (Line j) (λ a. turn s a.1 a.0)))
 next-alike true s i j = ask _ refl (λ u. line (λ l k m. turn-alike s k m l))
 next-alike false s i j = line (λ l k m. turn-alike s k m l)
 
@@ -256,10 +257,12 @@ runs_are_alike one_row one_view start env d o s t es fs one two =
     let v = two.run.whole in
     let g = given-apart d o one.left es w.front w.behind w.is one.given in
     let h = given-apart d o two.left fs v.front v.behind v.is two.given in
-    let gone = loop-alike one_row one_view (round env) Same (λ x y i j same. round-alike env same) w.plays v.plays s t one.ended two.ended no_input no_input recovers d o g.between o h.between (level-first o) g.first h.first in
-    let ending : SaysAtEnd (may_say start) (line_at_end (actor_in env) s) w.behind = (subst (λ (out : Result Status Stop). Ending (actor_in env) (may_say start) s out w.behind) one.ended w.ending).1 in
-    let other : SaysAtEnd (may_say start) (line_at_end (actor_in env) t) v.behind = (subst (λ (out : Result Status Stop). Ending (actor_in env) (may_say start) t out v.behind) two.ended v.ending).1 in
-    let behind : w.behind ≡ v.behind = end-same (may_say start) (line_at_end (actor_in env) s) w.behind v.behind ending
-    (subst (λ (e : Status). SaysAtEnd (may_say start) (line_at_end (actor_in env) e) v.behind) (sym gone.end) other)
+    let gone = loop-alike one_row one_view (round env) Same
+    (λ x y i j same. round-alike env same) w.plays v.plays s t one.ended two.ended no_input no_input recovers d o g.between o h.between (level-first o) g.first h.first in
+    let ending : SaysAtEnd (may_say start) (line_at_end (actor_said env) s) w.behind =
+    (subst (λ (out : Result Status Stop). Ending (actor_said env) (may_say start) s out w.behind) one.ended w.ending).1 in
+    let other : SaysAtEnd (may_say start) (line_at_end (actor_said env) t) v.behind = (subst (λ (out : Result Status Stop). Ending (actor_said env) (may_say start) t out v.behind) two.ended v.ending).1 in
+    let behind : w.behind ≡ v.behind = end-same (may_say start) (line_at_end (actor_said env) s) w.behind v.behind ending
+    (subst (λ (e : Status). SaysAtEnd (may_say start) (line_at_end (actor_said env) e) v.behind) (sym gone.end) other)
     (printed-behind w.front w.behind (sym (ap some_out_failed w.is) ∙ one.printed)) (printed-behind v.front v.behind (sym (ap some_out_failed v.is) ∙ two.printed)) in
     (gone.end, alike-then d es w.front w.behind fs v.front v.behind w.is v.is gone.alike.says gone.alike.leaves (record { says = ap said behind; leaves = ap (disk (disk d w.front)) behind }))

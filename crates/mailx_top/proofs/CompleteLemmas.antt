@@ -27,7 +27,7 @@ use Rattle.mailx_top.specs.declared.environment.Environment.{Environment}
 use Rattle.session_state.specs.Statuses.{IsEnd}
 use Rattle.mailx_top.specs.Complete.{IsStill, some_refused_in, IsUnhindered, IsComplete}
 use Rattle.mailx_top.specs.Leavings.{first_answer, is_quit_refused, is_refused_before, is_refused_at, refused_at_end, last_outcome, outcome_before}
-use Rattle.mailx_top.specs.Meaning.{RunState, Recovering, Preparing, Opening, Reading, Finishing, Leaving, round, input_of, is_opening, is_recovering, actor_in}
+use Rattle.mailx_top.specs.Meaning.{RunState, Recovering, Preparing, Opening, Reading, Finishing, Leaving, round, input_of, is_opening, is_recovering, actor_in, actor_said}
 use Rattle.mailx_top.specs.Met.{some_act}
 use Rattle.mailx_top.specs.Openings.{saw_held}
 use Rattle.mailx_top.specs.Runs.{Ending, IsRun}
@@ -50,7 +50,8 @@ fine-so true P never = absurd never
 fine-so false P p = p
 
 module _ (env : Environment) (actor : List ℕ) (token : ℕ) (opens : Bool) (o : Outcome) (Leads : RunState → Type 0) (Exits : Status → Type 0) where
-  goes-came : (met : Met) (i : Input) (p : Play (Next RunState Status)) (es : List Event) (y : RunState) → Rounds env actor token opens (Leading o Leads) Exits (met, i) p → (goes : Goes p es (Ok (Go y)))
+  goes-came : (met : Met) (i : Input) (p : Play (Next RunState Status)) (es : List Event) (y : RunState)
+      → Rounds env actor token opens (Leading o Leads) Exits (met, i) p → (goes : Goes p es (Ok (Go y)))
       → CameFrom o (met.1 || some_act refused_test p es (Ok (Go y)) goes) (outcome_in y)
   goes-came met i (Ret q) es y obeys (none, inl same) =
       let E : Next RunState Status → Type 0 = λ n. RoundEnds env actor token (Leading o Leads) Exits (met, i) n in
@@ -62,7 +63,8 @@ module _ (env : Environment) (actor : List ℕ) (token : ℕ) (opens : Bool) (o 
       (goes-came (met_by met act answer) (input_after act answer i) (go answer) rest y (obeys.1 answer) goes)
   goes-came met i (Ask act go) es y obeys (inr (cause, other, how)) = absurd (cc other)
 
-round-came : (env : Environment) (x y : RunState) (es : List Event) (goes : Goes (round env x) es (Ok (Go y))) → CameFrom (outcome_in x) (some_act refused_test (round env x) es (Ok (Go y)) goes) (outcome_in y)
+round-came : (env : Environment) (x y : RunState) (es : List Event) (goes : Goes (round env x) es (Ok (Go y)))
+    → CameFrom (outcome_in x) (some_act refused_test (round env x) es (Ok (Go y)) goes) (outcome_in y)
 round-came env x y es goes = any-round env _ x (λ actor token of.
     goes-came env actor token (is_opening x) (outcome_in x) (LeadsFrom x) (ExitsFrom x) nothing_met (input_of x) (round env x) es y (round-obeys env actor token x of) goes)
 
@@ -84,7 +86,8 @@ loop-came : (env : Environment) {x : RunState} {es : List Event} {out : Result S
     → (outcome_in x ≡ outcome.Refused) ⊎ (some_refused_in loop ≡ true)
 loop-came env {x = x} (again {y = y} front rest is goes more) came = go (loop-came env more came)
   where
-    go : (outcome_in y ≡ outcome.Refused) ⊎ (some_refused_in more ≡ true) → (outcome_in x ≡ outcome.Refused) ⊎ ((some_act refused_test (round env x) front (Ok (Go y)) goes || some_refused_in more) ≡ true)
+    go : (outcome_in y ≡ outcome.Refused) ⊎ (some_refused_in more ≡ true)
+        → (outcome_in x ≡ outcome.Refused) ⊎ ((some_act refused_test (round env x) front (Ok (Go y)) goes || some_refused_in more) ≡ true)
     go (inl here) = came-or (outcome_in x) (outcome_in y) (some_act refused_test (round env x) front (Ok (Go y)) goes) (some_refused_in more) (round-came env x y front goes) here
     go (inr later) = inr (or-later (some_act refused_test (round env x) front (Ok (Go y)) goes) (some_refused_in more) later)
 loop-came env (last goes) came = inl came
@@ -121,9 +124,11 @@ round-why env (Opening start s) es r goes is = absurd (cc is)
 round-why env (Reading s i) es r goes is = by-draft s.outcome r _ is
 round-why env (Finishing s i) es r goes is = by-draft s.outcome r _ is
 round-why env (Leaving s i) es r goes is =
-    by-end s.outcome r (is_quit_refused s (first_answer (round env (Leaving s i)) es (Ok (Last r)) goes)) (some_act refused_test (round env (Leaving s i)) es (Ok (Last r)) goes) (quit-met s es r goes) is
+    by-end s.outcome r (is_quit_refused s (first_answer (round env (Leaving s i)) es (Ok (Last r)) goes))
+    (some_act refused_test (round env (Leaving s i)) es (Ok (Last r)) goes) (quit-met s es r goes) is
 
-loop-why : (env : Environment) {x : RunState} {es : List Event} {out : Result Status Stop} (loop : Loop (round env) x es out) → refused_at_end loop ≡ true → IsWhy (last_in loop) (last_outcome loop) (some_refused_in loop)
+loop-why : (env : Environment) {x : RunState} {es : List Event} {out : Result Status Stop} (loop : Loop (round env) x es out)
+    → refused_at_end loop ≡ true → IsWhy (last_in loop) (last_outcome loop) (some_refused_in loop)
 loop-why env {x = x} (again {y = y} front rest is goes more) refused = go (loop-why env more refused)
   where
     go : IsWhy (last_in more) (last_outcome more) (some_refused_in more) → IsWhy (last_in more) (last_outcome more) (some_act refused_test (round env x) front (Ok (Go y)) goes || some_refused_in more)
@@ -215,30 +220,33 @@ second-true true b is h = absurd (cc is)
 second-true false b is h = h
 
 -- a refused run came to its opening, if its recovery met nobody's right
-opened-by : (start : Option Start) (actor : List ℕ) (out : Result Status Stop) (es : List Event) (O : Type 0) → IsExplainedFrom start actor out es O → is_right_busy (told_end actor es) ≡ false → out ≡ Ok status.Refused → O
+opened-by : (start : Option Start) (actor : List ℕ) (out : Result Status Stop) (es : List Event) (O : Type 0) → IsExplainedFrom start actor out es O
+    → is_right_busy (told_end actor es) ≡ false → out ≡ Ok status.Refused → O
 opened-by None actor out es O explained free is = explained.opens (second-true (is_right_busy (told_end actor es)) (is_recovered (told_end actor es)) free (explained.refused_only is))
-opened-by (Some (words.Opens o)) actor out es O explained free is = explained.opens (second-true (is_right_busy (told_end actor es)) (is_recovered (told_end actor es)) free (explained.refused_only is))
+opened-by (Some (words.Opens o)) actor out es O explained free is =
+    explained.opens (second-true (is_right_busy (told_end actor es)) (is_recovered (told_end actor es)) free (explained.refused_only is))
 opened-by (Some (words.Sends o)) actor out es O explained free is = explained.1
 
 module _ (start : Option Start) (env : Environment) where
   not-refused : (es : List Event) (run : IsRun start env status.Refused es) → IsUnhindered start env status.Refused es run → ⊥
-  not-refused es run free = go (comes (actor_in env) (may_say start) status.Refused run.whole.out run.whole.behind run.whole.ending)
+  not-refused es run free = go (comes (actor_said env) (may_say start) status.Refused run.whole.out run.whole.behind run.whole.ending)
     where
       go : Comes status.Refused run.whole.out → ⊥
       go (inl is) =
           let opened = opened-by (start_of start env.pairs) (actor_in env) run.whole.out (events_at is_recovering run.whole.plays) _ run.opening free.right is in
-          unrefused env (start_of start env.pairs) run.whole.plays free.changes free.recorded (second-true (some_load_saw saw_held (events_at is_opening run.whole.plays)) (refused_at_end run.whole.plays) free.lock (opened.refused_only is))
+          unrefused env (start_of start env.pairs) run.whole.plays free.changes free.recorded
+          (second-true (some_load_saw saw_held (events_at is_opening run.whole.plays)) (refused_at_end run.whole.plays) free.lock (opened.refused_only is))
       go (inr (cause, is, at)) = no-cut-refused cause at
 
   not-for-record : (es : List Event) (run : IsRun start env status.BadRecord es) → IsUnhindered start env status.BadRecord es run → ⊥
-  not-for-record es run free = go (comes (actor_in env) (may_say start) status.BadRecord run.whole.out run.whole.behind run.whole.ending)
+  not-for-record es run free = go (comes (actor_said env) (may_say start) status.BadRecord run.whole.out run.whole.behind run.whole.ending)
     where
       go : Comes status.BadRecord run.whole.out → ⊥
       go (inl is) = let both : true ≡ false = sym (run.record_met.only is) ∙ free.record_reads in absurd (cc both)
       go (inr (cause, is, at)) = no-cut-record cause at
 
   not-limit : (es : List Event) (run : IsRun start env status.InputLimit es) → IsUnhindered start env status.InputLimit es run → ⊥
-  not-limit es run free = go (comes (actor_in env) (may_say start) status.InputLimit run.whole.out run.whole.behind run.whole.ending)
+  not-limit es run free = go (comes (actor_said env) (may_say start) status.InputLimit run.whole.out run.whole.behind run.whole.ending)
     where
       go : Comes status.InputLimit run.whole.out → ⊥
       go (inl is) = loop-limit env run.whole.plays is
@@ -268,12 +276,14 @@ ends-plainly : (env : Environment) (start : Option Start) (s : Status) → EndsA
 ends-plainly env None s named some = absurd (some refl)
 ends-plainly env (Some start) s named some = named.0
 
-pub complete-end : (start : Option Start) (env : Environment) (s : Status) → EndsAsNamed env (start_of start env.pairs) (Ok s) → (start_of start env.pairs ≡ None → ⊥) → (es : List Event) → IsComplete start env s es
+pub complete-end : (start : Option Start) (env : Environment) (s : Status) → EndsAsNamed env (start_of start env.pairs) (Ok s)
+    → (start_of start env.pairs ≡ None → ⊥) → (es : List Event) → IsComplete start env s es
 complete-end start env s named some es =
     let plain = ends-plainly env (start_of start env.pairs) s named some in
     complete start env s es (λ is. subst IsEnd is plain) (λ is. subst IsEnd is plain) (λ is. subst IsEnd is plain) (λ is. subst IsEnd is plain)
 
-pub complete-cut : (start : Option Start) (env : Environment) (T : Type 0) (cause : Stop) (old mid new : Counts) → Caused {T = T} old mid (Err cause) → NeverFall mid new → IsStill old new → (es : List Event) → IsComplete start env (status_at_stop cause) es
+pub complete-cut : (start : Option Start) (env : Environment) (T : Type 0) (cause : Stop) (old mid new : Counts) → Caused {T = T} old mid (Err cause)
+    → NeverFall mid new → IsStill old new → (es : List Event) → IsComplete start env (status_at_stop cause) es
 complete-cut start env T stop.Input old mid new rose fall still es = absurd (still.ins (rose-on old.ins mid.ins new.ins fall.ins rose))
 complete-cut start env T stop.Output old mid new rose fall still es = absurd (still.outs (rose-on old.outs mid.outs new.outs fall.outs rose))
 complete-cut start env T stop.Disk old mid new rose fall still es = absurd (still.disks (rose-on old.disks mid.disks new.disks fall.disks rose))

@@ -1,5 +1,5 @@
 -- How a run ends, and the last line of one that was cut off.
-use Rattle.std.proofs.Common.{◌≡◌, ℕ, Bool, true, false, List, [], ◌∷◌, refl, sym, ◌∙◌, ap, subst, inl, inr, take}
+use Rattle.std.proofs.Common.{◌≡◌, ℕ, Bool, true, false, List, [], ◌∷◌, ◌++◌, refl, sym, ◌∙◌, ap, subst, inl, inr, take}
 use Rattle.std.specs.declared.result.Result.{Result}
 use Rattle.std.specs.declared.result.Result.TheVariants.{Ok, Err}
 use Rattle.host_port.specs.declared.event.Event.{Event}
@@ -13,13 +13,12 @@ use Rattle.host_port.specs.Calls.{Counts, NeverFall}
 use Rattle.host_port.proofs.RanLemmas.{rose-back}
 use Rattle.session_play.specs.declared.stop.Stop.{Stop}
 use Rattle.session_play.specs.declared.stop.Stop.TheVariants as stop
-use Rattle.std.specs.Prelude.{if◌then◌else◌, IfErr, IfOk, IfSome, IfNone, IsSome}
+use Rattle.std.specs.Prelude.{if◌then◌else◌, codes, IfErr, IfOk, IfSome, IfNone, IsSome}
 use Rattle.session_play.specs.Play.{Caused, Play, Ret, Ask, Goes, Next, Last, Loop, again, last, cut}
 use Rattle.mailx_vars.specs.declared.environment.Places.{Places}
 use Rattle.mailx_vars.specs.Environment.{Pairs, knows_user, places_in, places_of}
 use Rattle.mailx_top.specs.declared.environment.Environment.{Environment}
-use Rattle.mailx_top.specs.Meaning.{actor_in, first_of, pairs_for, next_state, after_recovery}
-use Rattle.session_state.specs.Placing.{actor_for, front_of}
+use Rattle.mailx_top.specs.Meaning.{actor_in, actor_said, first_of, pairs_for, next_state, after_recovery}
 use Rattle.session_state.specs.declared.state.SessionState.{SessionState}
 use Rattle.session_play.specs.Input.{Input}
 use Rattle.session_play.specs.Cuts.{IsLoadCut}
@@ -115,9 +114,9 @@ actor-same env start = go (options_of start).user
 pub user-known : (user : List ℕ) (pairs : Pairs) → knows_user (pairs_for (Some user) pairs) ≡ knows_user pairs
 user-known user pairs = refl
 
--- the actor of a run whose places are read
-pub actor-read : (env : Environment) (places : Places) → Some places ≡ places_of env.pairs → actor_for (front_of env.folder) places.home ≡ actor_in env
-actor-read env places is = ap (λ (p : Places). actor_for (front_of env.folder) p.home) (go (knows_user env.pairs) is)
+-- the actor of a run whose places are read, as it is said
+pub actor-read : (env : Environment) (places : Places) → Some places ≡ places_of env.pairs → places.home ++ codes "/.mailx" ≡ actor_said env
+actor-read env places is = ap (λ (p : Places). p.home ++ codes "/.mailx") (go (knows_user env.pairs) is)
   where
     go : (b : Bool) → Some places ≡ (if b then Some (places_in env.pairs) else None) → places ≡ places_in env.pairs
     go true same = cc same
@@ -318,7 +317,8 @@ load-stops stop.Output never = absurd never
 load-stops stop.TooMuch never = absurd never
 
 -- what a line leads to after a busy right
-pub said-next : (s : SessionState) (i : Input) (env : Environment) (start : Start) (result : Result (Option Status) Stop) → EndsOrOpens status.Refused result → next_state s i result ≡ after_recovery env start result
+pub said-next : (s : SessionState) (i : Input) (env : Environment) (start : Start) (result : Result (Option Status) Stop)
+    → EndsOrOpens status.Refused result → next_state s i result ≡ after_recovery env start result
 said-next s i env start (Ok None) never = absurd never
 said-next s i env start (Ok (Some e)) is = refl
 said-next s i env start (Err cause) c = refl

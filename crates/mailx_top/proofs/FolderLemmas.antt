@@ -45,7 +45,8 @@ unfolding list_of
 listed b some = ⊎_elim (λ t. cond-true _ _ _ t) (λ f. absurd (some (cond-false _ _ _ f))) (cases_Bool (is_mailbox b))
 
 -- a session that was opened goes as it is greeted
-pub begun-goes : (old : SessionState) (o : Options) (name bytes : List ℕ) (s : SessionState) (out : Result (Next RunState Status) Stop) → Opens old name bytes s → (es : List Event) → Goes (greeted (manner_of o) s) es out
+pub begun-goes : (old : SessionState) (o : Options) (name bytes : List ℕ) (s : SessionState) (out : Result (Next RunState Status) Stop)
+    → Opens old name bytes s → (es : List Event) → Goes (greeted (manner_of o) s) es out
     → Goes (begun old o name bytes (texts_of bytes)) es out
 begun-goes old o name bytes s out (rows, are, is) es went =
     let G : SessionState → Type 0 = λ d. Goes (greeted (manner_of o) d) es out in
@@ -68,7 +69,8 @@ pub with-held : (s : SessionState) (o : Options) (name : List ℕ) (f : Found) (
 with-held s o name f b h is held = ap (loaded s o name) (is ∙ ap (λ h. found.Bytes b h) held)
 
 -- a file that isn't held, with no mail or with some
-pub with-unheld : (s : SessionState) (o : Options) (name : List ℕ) (bytes : Option (List ℕ)) (b : Bool) → is_no_mail o.folder bytes ≡ b → loaded s o name (found.Bytes bytes false) ≡ unheld s o name bytes b
+pub with-unheld : (s : SessionState) (o : Options) (name : List ℕ) (bytes : Option (List ℕ)) (b : Bool) → is_no_mail o.folder bytes ≡ b
+    → loaded s o name (found.Bytes bytes false) ≡ unheld s o name bytes b
 with-unheld s o name bytes b is = ap (unheld s o name bytes) is
 
 pub with-large : (s : SessionState) (o : Options) (name : List ℕ) (f : Found) (n : ℕ) → f ≡ found.TooLarge n → loaded s o name f ≡ ends_with o (with_feed (name ++ codes ": too large")) status.NoFolder
@@ -82,7 +84,8 @@ pub with-word : (s : SessionState) (o : Options) (name : OrFault (List ℕ)) →
 with-word s o name is = ap (with_name_or_fault s o) is
 
 -- what is done where more messages start than a folder may have
-pub with-too-many : (s : SessionState) (o : Options) (name b : List ℕ) (count : ℕ) (e : ScanError) → e ≡ scan.TooMany count → (list_of b ≡ None → failed e ≡ failed scan.NotAMailbox) → count ≡ length (starts b) → message_limit < count
+pub with-too-many : (s : SessionState) (o : Options) (name b : List ℕ) (count : ℕ) (e : ScanError) → e ≡ scan.TooMany count
+    → (list_of b ≡ None → failed e ≡ failed scan.NotAMailbox) → count ≡ length (starts b) → message_limit < count
     → with_list s o name b (list_of b) ≡ ends_with o (with_feed (name ++ codes ": too many messages")) status.NoFolder
 with-too-many s o name b count e found some is many =
     let long : nat_lt message_limit (length (texts_of b)) ≡ true = lt-ltb _ _ (let e = length-texts b in omega arith) in

@@ -177,7 +177,8 @@ explained-shut Bad start es (Ok r) e m same = record {
 explained-shut Bad start es (Err cause) e m same = explained-cut Bad start es false (Err cause) cause refl
 
 -- a run that opened its folder and ended by its last quit
-explained-open : (b : Bool) (Bad : Type 0) (start : Option Start) (es : List Event) (out : Result Status Stop) → Matches Bad start es status.Done → EndsLike (end_at b) out → IsOpeningExplained Bad start out es b
+explained-open : (b : Bool) (Bad : Type 0) (start : Option Start) (es : List Event) (out : Result Status Stop) → Matches Bad start es status.Done
+    → EndsLike (end_at b) out → IsOpeningExplained Bad start out es b
 explained-open true Bad start es (Ok r) m same = record {
   refused_only = λ is. or-true (some_load_saw saw_held es);
   refused_always = λ h. other-end r status.Refused same (λ e. absurd (cc e));
@@ -196,7 +197,8 @@ explained-open false Bad start es (Ok r) m same = record {
 }
 explained-open b Bad start es (Err cause) m same = explained-cut Bad start es b (Err cause) cause refl
 
-explained-as : (Bad : Type 0) (start : Option Start) (es : List Event) (b : Bool) (out : Result Status Stop) (e : Status) → Matches Bad start es e → EndsAfter b e out → IsOpeningExplained Bad start out es b
+explained-as : (Bad : Type 0) (start : Option Start) (es : List Event) (b : Bool) (out : Result Status Stop) (e : Status) → Matches Bad start es e
+    → EndsAfter b e out → IsOpeningExplained Bad start out es b
 explained-as Bad start es b out e m (inl (done, same)) = explained-open b Bad start es out (subst (Matches Bad start es) done m) same
 explained-as Bad start es b out e m (inr (none, same)) = subst (IsOpeningExplained Bad start out es) (sym none) (explained-shut Bad start es out e m same)
 
@@ -322,7 +324,8 @@ continues-blind named b p es out all goes = record {
   mail = continues-unseen (saw_no_mail named) b p es out all goes;
 }
 
-explained-found : (env : Environment) (Bad : Type 0) (s : SessionState) (o : Options) (name file : List ℕ) (es : List Event) (b : Bool) (out : Result Status Stop) → (Bad → ⊥) → AfterLoad b file (loaded s o name) es out
+explained-found : (env : Environment) (Bad : Type 0) (s : SessionState) (o : Options) (name file : List ℕ) (es : List Event) (b : Bool)
+    (out : Result Status Stop) → (Bad → ⊥) → AfterLoad b file (loaded s o name) es out
     → IsOpeningExplained Bad (Some (words.Opens o)) out es b
 explained-found env Bad s o name file es b out good (inr (cause, is)) = explained-cut Bad (Some (words.Opens o)) es b out cause is
 explained-found env Bad s o name file es b out good (inl (f, rest, is, goes)) =
@@ -333,7 +336,8 @@ explained-found env Bad s o name file es b out good (inl (f, rest, is, goes)) =
     let e = end_of o.folder f in
     subst E (sym is) (explained-as Bad (Some (words.Opens o)) _ b out e (matches-found Bad o file rest f good u) (continues-with b e p rest out (ends-with env s e p obeys) goes))
 
-explained-said : (Bad : Type 0) (start : Option Start) (text : List ℕ) (e : Status) (es : List Event) (b : Bool) (out : Result Status Stop) → opened_end e ≡ e → Continues b (says_and_ends text e) es out
+explained-said : (Bad : Type 0) (start : Option Start) (text : List ℕ) (e : Status) (es : List Event) (b : Bool) (out : Result Status Stop)
+    → opened_end e ≡ e → Continues b (says_and_ends text e) es out
     → (LoadsNone (is_named start) es → Matches Bad start es e) → IsOpeningExplained Bad start out es b
 explained-said Bad start text e es b out plain goes to =
     let u = continues-blind (is_named start) b (says_and_ends text e) es out (refl, λ u. tt) goes in
@@ -354,7 +358,8 @@ matches-sent start es u = record {
     none-opens (inl never) = absurd never
     none-opens (inr h) = no-end _ u.folder h
 
-explained-sent : (env : Environment) (b : Bool) (t : SessionState) (start : Start) (es : List Event) (at_end : Bool) (out : Result Status Stop) → Continues at_end (sent b t) es out → IsOpeningExplained ⊥ (Some start) out es at_end
+explained-sent : (env : Environment) (b : Bool) (t : SessionState) (start : Start) (es : List Event) (at_end : Bool) (out : Result Status Stop)
+    → Continues at_end (sent b t) es out → IsOpeningExplained ⊥ (Some start) out es at_end
 explained-sent env b t start es at_end out goes =
     let obeys = sent-obeys env t.actor t.token b t (refl, refl) in
     let u = continues-blind (options_of start).folder at_end (sent b t) es out (loads-none env t status.Done (sent b t) obeys) goes in
@@ -373,7 +378,8 @@ explained-folder env o s es at_end out goes = word (folder_name s o) refl goes
     named : (name : List ℕ) → folder_name s o ≡ Ok name → (b : Bool) → is_short_name (placed s.here name) ≡ b
         → Continues at_end (if b then Ask (Read (placed s.here name)) (loaded s o name) else ends_with o (with_feed (name ++ codes ": bad name")) status.NoFolder) es out → IsOpeningExplained Bad (Some (words.Opens o)) out es at_end
     named name word true short goes =
-        explained-found env Bad s o name (placed s.here name) es at_end out (λ bad. no-end _ (subst (IsNoName s.here) word bad) short) (after-load at_end (placed s.here name) (loaded s o name) es out goes)
+        explained-found env Bad s o name (placed s.here name) es at_end out (λ bad. no-end _ (subst (IsNoName s.here) word bad) short)
+        (after-load at_end (placed s.here name) (loaded s o name) es out goes)
     named name word false bad goes = said (with_feed (name ++ codes ": bad name")) (subst (IsNoName s.here) (sym word) bad) goes
 
     word : (name : OrFault (List ℕ)) → folder_name s o ≡ name → Continues at_end (with_name_or_fault s o name) es out → IsOpeningExplained Bad (Some (words.Opens o)) out es at_end
@@ -387,7 +393,8 @@ explained-opening env (Some (words.Opens o)) s es at_end out goes = explained-fo
 explained-opening env (Some (words.Sends o)) s es at_end out goes = explained-sent env (asks_in s o) (begun_in s o) (words.Sends o) es at_end out goes
 
 -- what is said of a bad word may be said in other words
-pub explained-by : (A B : Type 0) → (A → B) → (B → A) → (start : Option Start) (out : Result Status Stop) (es : List Event) (b : Bool) → IsOpeningExplained A start out es b → IsOpeningExplained B start out es b
+pub explained-by : (A B : Type 0) → (A → B) → (B → A) → (start : Option Start) (out : Result Status Stop) (es : List Event) (b : Bool)
+    → IsOpeningExplained A start out es b → IsOpeningExplained B start out es b
 explained-by A B to back start out es b x = record {
   refused_only = x.refused_only;
   refused_always = x.refused_always;
@@ -447,7 +454,8 @@ files-last : (o : Outcome) (start : Start) (r : Status) → EndsBy o r → IsOpe
 files-last o start r by_line = explained-open (is_refused_before o r) ⊥ (Some start) [] (Ok r) (matches-sent start [] (record { held = refl; folder = refl; mail = refl })) (line-end o r by_line)
 
 -- a round before the opening, and what follows it
-files-then : (env : Environment) (start : Start) (x y : RunState) (es front rest : List Event) (out : Result Status Stop) → IsBefore start x → (is : es ≡ front ++ rest) → (goes : Goes (round env x) front (Ok (Go y)))
+files-then : (env : Environment) (start : Start) (x y : RunState) (es front rest : List Event) (out : Result Status Stop) → IsBefore start x
+    → (is : es ≡ front ++ rest) → (goes : Goes (round env x) front (Ok (Go y)))
     → (more : Loop (round env) y rest out) → (IsBefore start y → IsOpeningExplained (OpenedBadly more) (Some start) out (events_at is_opening more) (refused_at_end more))
     → IsOpeningExplained (OpensBadly x ⊎ OpenedBadly more) (Some start) out (counted (is_opening x) front ++ events_at is_opening more) (refused_at_end more)
 files-then env start (Recovering o) y es front rest out never is goes more later = absurd never

@@ -172,7 +172,8 @@ adds-apart n [] apart = nothing
 adds-apart n (c ∷ cs) apart =
     passes (All-head (λ (other : Change). n ≢ name_of other) c cs apart) (adds-apart n cs (All-tail (λ (other : Change). n ≢ name_of other) c cs apart))
 
-adds-then : {n : List ℕ} {changes : List Change} {texts : List (List ℕ)} → Adds n changes texts → (others : List Change) → All (λ (other : Change). n ≢ name_of other) others → Adds n (changes ++ others) texts
+adds-then : {n : List ℕ} {changes : List Change} {texts : List (List ℕ)} → Adds n changes texts → (others : List Change)
+    → All (λ (other : Change). n ≢ name_of other) others → Adds n (changes ++ others) texts
 adds-then {n = n} nothing others apart = adds-apart n others apart
 adds-then (passes away adds) others apart = passes away (adds-then adds others apart)
 adds-then (puts proper adds) others apart = puts proper (adds-then adds others apart)

@@ -80,7 +80,8 @@ none-told : (actor : List ℕ) (changes : List Change) (base : List (List ℕ)) 
 none-told actor changes base es none = ap (λ (es : List Event). is_unreadable changes (end_told actor changes base es)) none
 
 -- an answered commit says what its own events tell
-changes-told : (actor : List ℕ) (token : ℕ) (changes : List Change) (base : List (List ℕ)) (es : List Event) (a : Committed) → token < 2 ^ 64 → AreFiles actor changes → IsCommit actor token changes base es (answer_as a)
+changes-told : (actor : List ℕ) (token : ℕ) (changes : List Change) (base : List (List ℕ)) (es : List Event) (a : Committed) → token < 2 ^ 64
+    → AreFiles actor changes → IsCommit actor token changes base es (answer_as a)
     → is_unreadable changes (end_told actor changes base es) ≡ answers_unreadable changes (Made a)
 changes-told actor token [] base es a fits files (none, is) = none-told actor [] base es none ∙ sym (done-unreadable [] a is)
 changes-told actor token (c ∷ cs) base es a fits files (inl (many, (none, inl is))) = none-told actor (c ∷ cs) base es none ∙ sym (many-unreadable (c ∷ cs) _ a is)
@@ -91,10 +92,10 @@ changes-told actor token (c ∷ cs) base es a fits files (inr (few, h)) =
 
 -- so does a recovery
 recovery-told : (actor : List ℕ) (token : ℕ) (es : List Event) (a : RecoveryAnswer) → IsRecoveryOf actor token es (recovery_as a) → is_bad_record (told_end actor es) ≡ found_unreadable a
-recovery-told actor token es (recovery.Done f) did = ap is_bad_record (recoveries.is-told actor token es (recovery_as (recovery.Done f)) did)
-recovery-told actor token es (recovery.Busy name) did = ap is_bad_record (recoveries.is-told actor token es (recovery_as (recovery.Busy name)) did)
-recovery-told actor token es recovery.NotARecord did = ap is_bad_record (recoveries.is-told actor token es (recovery_as recovery.NotARecord) did)
-recovery-told actor token es (recovery.TooLarge name n) did = ap is_bad_record (recoveries.is-told actor token es (recovery_as (recovery.TooLarge name n)) did)
+recovery-told actor token es (recovery.Done f) did = ap is_bad_record (recoveries.is-told actor token es (recovery_as (recovery.Done f)) did.1)
+recovery-told actor token es (recovery.Busy name) did = ap is_bad_record (recoveries.is-told actor token es (recovery_as (recovery.Busy name)) did.1)
+recovery-told actor token es recovery.NotARecord did = ap is_bad_record (recoveries.is-told actor token es (recovery_as recovery.NotARecord) did.1)
+recovery-told actor token es (recovery.TooLarge name n) did = ap is_bad_record (recoveries.is-told actor token es (recovery_as (recovery.TooLarge name n)) did.1)
 
 pub or-moved : (met u s : Bool) → (met || (u || s)) ≡ ((u || met) || s)
 or-moved true true s = refl
@@ -158,16 +159,19 @@ exits-free (Finishing s i) e is = ap is_for_record is ∙ not-for-record s.outco
 exits-free (Leaving s i) e (inl is) = ap is_for_record is ∙ not-for-record s.outcome
 exits-free (Leaving s i) e (inr is) = ap is_for_record is
 
-round-told : (env : Environment) → env.token < 2 ^ 64 → (x : RunState) → StateOf env (actor_in env) env.token x → (es : List Event) (n : Next RunState Status) (goes : Goes (round env x) es (Ok n)) → some_unreadable (round env x) es (Ok n) goes ≡ next_ends n
+round-told : (env : Environment) → env.token < 2 ^ 64 → (x : RunState) → StateOf env (actor_in env) env.token x
+    → (es : List Event) (n : Next RunState Status) (goes : Goes (round env x) es (Ok n)) → some_unreadable (round env x) es (Ok n) goes ≡ next_ends n
 round-told env fits x of es n goes =
-    goes-told (actor_in env) env.token fits env (is_opening x) (Leading (outcome_in x) (LeadsFrom x)) (ExitsFrom x) (exits-free x) nothing_met (input_of x) (round env x) es n (round-obeys env (actor_in env) env.token x of) goes
+    goes-told (actor_in env) env.token fits env (is_opening x) (Leading (outcome_in x) (LeadsFrom x)) (ExitsFrom x) (exits-free x) nothing_met
+    (input_of x) (round env x) es n (round-obeys env (actor_in env) env.token x of) goes
 
 -- how the end of a loop tells of its commits
 abbrev EndTells : Result Status Stop → Bool → Type 0
 EndTells (Ok e) met = met ≡ is_for_record e
 EndTells (Err cause) met = Unit {0}
 
-loop-told : (env : Environment) → env.token < 2 ^ 64 → {x : RunState} {es : List Event} {out : Result Status Stop} → StateOf env (actor_in env) env.token x → (loop : Loop (round env) x es out) → EndTells out (some_unreadable_in loop)
+loop-told : (env : Environment) → env.token < 2 ^ 64 → {x : RunState} {es : List Event} {out : Result Status Stop}
+    → StateOf env (actor_in env) env.token x → (loop : Loop (round env) x es out) → EndTells out (some_unreadable_in loop)
 loop-told env fits {x = x} {out = out} of (again {y = y} front rest is goes more) =
     let kept : StateOf env (actor_in env) env.token y = goes-ends (NextKeeps (StateOf env (actor_in env) env.token)) (round env x) front (Go y) (round-of env (actor_in env) env.token x of) goes in
     subst (λ (b : Bool). EndTells out (b || some_unreadable_in more)) (sym (round-told env fits x of front (Go y) goes)) (loop-told env fits kept more)
@@ -195,5 +199,6 @@ explained-as (Ok e) met tells = record {
 }
 explained-as (Err cause) met tells = record { only = λ is. absurd (cc is); always = λ h. tt }
 
-pub record-explained : (env : Environment) → env.token < 2 ^ 64 → (start : Option Start) (es : List Event) (out : Result Status Stop) (loop : Loop (round env) (Recovering start) es out) → IsRecordExplained out (some_unreadable_in loop)
+pub record-explained : (env : Environment) → env.token < 2 ^ 64
+    → (start : Option Start) (es : List Event) (out : Result Status Stop) (loop : Loop (round env) (Recovering start) es out) → IsRecordExplained out (some_unreadable_in loop)
 record-explained env fits start es out loop = explained-as out (some_unreadable_in loop) (loop-told env fits (refl, refl) loop)

@@ -65,13 +65,15 @@ lines-plain env {x = x} reading (again {y = y} front rest is goes more) =
 lines-plain env {x = x} {es = es} reading (last goes) = plain-counted x es reading
 lines-plain env {x = x} {es = es} reading (cut goes) = plain-counted x es reading
 
-opening-plain : (env : Environment) (start : Option Start) (s : SessionState) {es : List Event} {out : Result Status Stop} (loop : Loop (round env) (Opening start s) es out) → events_at is_recovering loop ≡ []
+opening-plain : (env : Environment) (start : Option Start) (s : SessionState) {es : List Event} {out : Result Status Stop}
+    (loop : Loop (round env) (Opening start s) es out) → events_at is_recovering loop ≡ []
 opening-plain env start s (again {y = y} front rest is goes more) = lines-plain env (goes-on env (Opening start s) y front goes) more
 opening-plain env start s (last goes) = refl
 opening-plain env start s (cut goes) = refl
 
 -- the start-up files and what follows them
-before-then : (env : Environment) (start : Start) (x y : RunState) (es front rest : List Event) (out : Result Status Stop) → IsBefore start x → es ≡ front ++ rest → Goes (round env x) front (Ok (Go y))
+before-then : (env : Environment) (start : Start) (x y : RunState) (es front rest : List Event) (out : Result Status Stop) → IsBefore start x
+    → es ≡ front ++ rest → Goes (round env x) front (Ok (Go y))
     → (more : Loop (round env) y rest out) → (IsBefore start y → events_at is_recovering more ≡ []) → counted (is_recovering x) front ++ events_at is_recovering more ≡ []
 before-then env start (Recovering o) y es front rest out never is goes more later = absurd never
 before-then env start (Preparing b s names) y es front rest out before is goes more later =
@@ -90,8 +92,10 @@ before-plain-state start (Reading s i) never = absurd never
 before-plain-state start (Finishing s i) never = absurd never
 before-plain-state start (Leaving s i) never = absurd never
 
-before-plain : (env : Environment) (start : Start) {x : RunState} {es : List Event} {out : Result Status Stop} → IsBefore start x → (loop : Loop (round env) x es out) → events_at is_recovering loop ≡ []
-before-plain env start {x = x} {es = es} {out = out} before (again {y = y} front rest is goes more) = before-then env start x y es front rest out before is goes more (λ on. before-plain env start on more)
+before-plain : (env : Environment) (start : Start) {x : RunState} {es : List Event} {out : Result Status Stop} → IsBefore start x
+    → (loop : Loop (round env) x es out) → events_at is_recovering loop ≡ []
+before-plain env start {x = x} {es = es} {out = out} before (again {y = y} front rest is goes more) =
+    before-then env start x y es front rest out before is goes more (λ on. before-plain env start on more)
 before-plain env start {x = x} {es = es} before (last goes) = ap (λ (b : Bool). counted b es) (before-plain-state start x before)
 before-plain env start {x = x} {es = es} before (cut goes) = ap (λ (b : Bool). counted b es) (before-plain-state start x before)
 
@@ -108,7 +112,8 @@ or-right : (b c : Bool) → c ≡ true → (b || c) ≡ true
 or-right true c h = refl
 or-right false c h = h
 
-with-recovery : (Bad : Type 0) (start : Option Start) (out : Result Status Stop) (recovery : Ending) (es : List Event) (b : Bool) → is_recovered recovery ≡ true → IsOpeningExplained Bad start out es b → Explained Bad start out recovery es b
+with-recovery : (Bad : Type 0) (start : Option Start) (out : Result Status Stop) (recovery : Ending) (es : List Event) (b : Bool)
+    → is_recovered recovery ≡ true → IsOpeningExplained Bad start out es b → Explained Bad start out recovery es b
 with-recovery Bad start out recovery es b done opening =
     let free = recovered-free recovery done in
     record {
@@ -133,7 +138,8 @@ opened-after env start x front {rest = rest} {out = out} before more done =
     (with-recovery Bad (Some start) out (told_end (actor_in env) front) (events_at is_opening more) (refused_at_end more) done
     (explained-by (OpenedBadly more) Bad inr (or-later (λ never. never)) (Some start) out (events_at is_opening more) (refused_at_end more) (files-explained env start before more)))
 
-explained-cut : (Bad : Type 0) (start : Option Start) (cause : Stop) (recovery : Ending) (es : List Event) (b : Bool) → IsOpeningExplained Bad start (Err cause) es b → Explained Bad start (Err cause) recovery es b
+explained-cut : (Bad : Type 0) (start : Option Start) (cause : Stop) (recovery : Ending) (es : List Event) (b : Bool)
+    → IsOpeningExplained Bad start (Err cause) es b → Explained Bad start (Err cause) recovery es b
 explained-cut Bad start cause recovery es b opening = record {
   opens = λ h. opening;
   busy = λ h. tt;
@@ -157,7 +163,8 @@ ended-busy start recovery name is = record {
   done_only = λ e. absurd (cc e);
 }
 
-ended-bad : (start : Option Start) (recovery : Ending) → is_right_busy recovery ≡ false → is_recovered recovery ≡ false → is_bad_record recovery ≡ true → Explained ⊥ start (Ok status.BadRecord) recovery [] false
+ended-bad : (start : Option Start) (recovery : Ending) → is_right_busy recovery ≡ false → is_recovered recovery ≡ false
+    → is_bad_record recovery ≡ true → Explained ⊥ start (Ok status.BadRecord) recovery [] false
 ended-bad start recovery free not bad = record {
   opens = λ h. absurd (cc (h, not));
   busy = λ h. absurd (cc (h, free));
@@ -261,7 +268,8 @@ last-same r e (inl same) = cc same
 last-same r e (inr other) = absurd (cc other)
 
 -- without a line
-ended-plainly : (actor : List ℕ) (start : Option Start) (e : Ending) (r : Status) (front rest : List Event) → is_right_busy e ≡ false → is_recovered e ≡ false → is_bad_record e ≡ true → told_end actor front ≡ e → rest ≡ [] → r ≡ status.BadRecord
+ended-plainly : (actor : List ℕ) (start : Option Start) (e : Ending) (r : Status) (front rest : List Event) → is_right_busy e ≡ false
+    → is_recovered e ≡ false → is_bad_record e ≡ true → told_end actor front ≡ e → rest ≡ [] → r ≡ status.BadRecord
     → Explained ⊥ start (Ok r) (told_end actor (front ++ rest)) [] false
 ended-plainly actor start e r front rest free not bad told none is =
     let whole : told_end actor (front ++ rest) ≡ e = ap (λ (l : List Event). told_end actor (front ++ l)) none ∙ (ap (told_end actor) (append-nil front) ∙ told) in
@@ -280,12 +288,13 @@ module _ (env : Environment) (actor : List ℕ) (token : ℕ) (o : Options) wher
   ended-by (recovery.Done f) r front rest did goes = absurd (let on = (said-on (heard_recovery o.exists f) (prepared env (Opens o)) rest (Last r) goes).0 in cc on)
   ended-by (recovery.Busy name) r front rest did goes =
       let said = said-so (heard o (with_feed (name ++ codes ": busy"))) status.Refused r rest goes in
-      let told = said.1 actor front ∙ is-told actor token front (recovery_as (recovery.Busy name)) did in
+      let told = said.1 actor front ∙ is-told actor token front (recovery_as (recovery.Busy name)) did.1 in
       subst (λ (r : Status). Explained ⊥ (Some (Opens o)) (Ok r) (told_end actor (front ++ rest)) [] false) (sym said.0) (ended-busy (Some (Opens o)) (told_end actor (front ++ rest)) name told)
   ended-by recovery.NotARecord r front rest did (none, end) =
-      ended-plainly actor (Some (Opens o)) (Refused NotARecord) r front rest refl refl refl (is-told actor token front (recovery_as recovery.NotARecord) did) none (last-same r status.BadRecord end)
+      ended-plainly actor (Some (Opens o)) (Refused NotARecord) r front rest refl refl refl (is-told actor token front (recovery_as recovery.NotARecord) did.1) none (last-same r status.BadRecord end)
   ended-by (recovery.TooLarge name n) r front rest did (none, end) =
-      ended-plainly actor (Some (Opens o)) (Refused (TooLarge name n)) r front rest refl refl refl (is-told actor token front (recovery_as (recovery.TooLarge name n)) did) none (last-same r status.BadRecord end)
+      ended-plainly actor (Some (Opens o)) (Refused (TooLarge name n)) r front rest refl refl refl
+      (is-told actor token front (recovery_as (recovery.TooLarge name n)) did.1) none (last-same r status.BadRecord end)
 
   -- one that leaves the folder to be opened
   abbrev Reaches : RunState → List Event → List Event → Type 0
@@ -294,7 +303,7 @@ module _ (env : Environment) (actor : List ℕ) (token : ℕ) (o : Options) wher
   reaches : (a : RecoveryAnswer) (y : RunState) (front rest : List Event) → IsRecoveryOf actor token front (recovery_as a) → Goes (recovered env o a) rest (Ok (Go y)) → Reaches y front rest
   reaches (recovery.Done f) y front rest did goes =
       let on = said-on (heard_recovery o.exists f) (prepared env (Opens o)) rest (Go y) goes in
-      (go-same y (prepared env (Opens o)) on.0, ap is_recovered (on.1 actor front ∙ is-told actor token front (recovery_as (recovery.Done f)) did))
+      (go-same y (prepared env (Opens o)) on.0, ap is_recovered (on.1 actor front ∙ is-told actor token front (recovery_as (recovery.Done f)) did.1))
   reaches (recovery.Busy name) y front rest did goes = absurd (goes-ends Ends (ends_with o (with_feed (name ++ codes ": busy")) status.Refused) rest (Go y) (λ u. tt) goes)
   reaches recovery.NotARecord y front rest did (none, inl other) = absurd (cc other)
   reaches recovery.NotARecord y front rest did (none, inr other) = absurd (cc other)
@@ -315,7 +324,8 @@ plainly-cut Bad start cause es b = record {
 -- the usage is said, or that is cut off
 usage-told : (env : Environment) (s : SessionState) (front : List Event) {rest : List Event} {out : Result Status Stop} (more : Loop (round env) (Opening None s) rest out) → front ≡ []
     → Explained (⊥ ⊎ OpenedBadly more) None out (told_end (actor_in env) (front ++ events_at is_recovering more)) (events_at is_opening more) (refused_at_end more)
-usage-told env s front more none = usage-by more (ap (λ (l : List Event). told_end (actor_in env) (l ++ events_at is_recovering more)) none ∙ ap (told_end (actor_in env)) (opening-plain env None s more))
+usage-told env s front more none = usage-by more
+    (ap (λ (l : List Event). told_end (actor_in env) (l ++ events_at is_recovering more)) none ∙ ap (told_end (actor_in env)) (opening-plain env None s more))
   where
     usage-by : {rest : List Event} {out : Result Status Stop} (more : Loop (round env) (Opening None s) rest out) {recovery : Ending} → recovery ≡ NoMemory
         → Explained (⊥ ⊎ OpenedBadly more) None out recovery (events_at is_opening more) (refused_at_end more)
@@ -328,11 +338,13 @@ usage-told env s front more none = usage-by more (ap (λ (l : List Event). told_
 usage-at : (env : Environment) (y : RunState) (s : SessionState) (front rest : List Event) (out : Result Status Stop) → y ≡ Opening None s → front ≡ [] → (more : Loop (round env) y rest out)
     → Explained (⊥ ⊎ OpenedBadly more) None out (told_end (actor_in env) (front ++ events_at is_recovering more)) (events_at is_opening more) (refused_at_end more)
 usage-at env y s front rest out is none =
-    let E : RunState → Type 0 = λ y. (more : Loop (round env) y rest out) → Explained (⊥ ⊎ OpenedBadly more) None out (told_end (actor_in env) (front ++ events_at is_recovering more)) (events_at is_opening more) (refused_at_end more) in
+    let E : RunState → Type 0 = λ y. (more : Loop (round env) y rest out)
+    → Explained (⊥ ⊎ OpenedBadly more) None out (told_end (actor_in env) (front ++ events_at is_recovering more)) (events_at is_opening more) (refused_at_end more) in
     subst E (sym is) (λ more. usage-told env s front more none)
 
 -- a run that recovers, from its recovery on
-recovery-then : (env : Environment) (o : Options) (y : RunState) (front rest : List Event) (out : Result Status Stop) → Goes (recovering env (Some (Opens o))) front (Ok (Go y)) → (more : Loop (round env) y rest out)
+recovery-then : (env : Environment) (o : Options) (y : RunState) (front rest : List Event) (out : Result Status Stop)
+    → Goes (recovering env (Some (Opens o))) front (Ok (Go y)) → (more : Loop (round env) y rest out)
     → Explained (⊥ ⊎ OpenedBadly more) (Some (Opens o)) out (told_end (actor_in env) (front ++ events_at is_recovering more)) (events_at is_opening more) (refused_at_end more)
 recovery-then env o y front rest out (inl (a, xs, ys, parts, did, goes)) more =
     let r = reaches env (actor_in env) env.token o a y xs ys did goes in
@@ -340,7 +352,8 @@ recovery-then env o y front rest out (inl (a, xs, ys, parts, did, goes)) more =
     opened-after env (Opens o) y front before more (subst (λ (l : List Event). is_recovered (told_end (actor_in env) l) ≡ true) (sym parts) r.1)
 recovery-then env o y front rest out (inr (cause, other, part)) more = absurd (cc other)
 
-recovery-over : (env : Environment) (o : Options) (r : Status) (es : List Event) → Goes (recovering env (Some (Opens o))) es (Ok (Last r)) → Explained ⊥ (Some (Opens o)) (Ok r) (told_end (actor_in env) es) [] false
+recovery-over : (env : Environment) (o : Options) (r : Status) (es : List Event) → Goes (recovering env (Some (Opens o))) es (Ok (Last r))
+    → Explained ⊥ (Some (Opens o)) (Ok r) (told_end (actor_in env) es) [] false
 recovery-over env o r es (inl (a, xs, ys, parts, did, goes)) =
     subst (λ (l : List Event). Explained ⊥ (Some (Opens o)) (Ok r) (told_end (actor_in env) l) [] false) (sym parts) (ended-by env (actor_in env) env.token o a r xs ys did goes)
 recovery-over env o r es (inr (cause, other, part)) = absurd (cc other)
@@ -354,7 +367,8 @@ prepared-then env o y front rest out (none, inl same) more =
     let before : IsBefore (Sends o) y = subst (IsBefore (Sends o)) (sym at) refl in
     let plain : events_at is_recovering more ≡ [] = before-plain env (Sends o) before more in (
       ap (λ (l : List Event). l ++ events_at is_recovering more) none ∙ plain,
-      explained-by (OpenedBadly more) (⊥ ⊎ OpenedBadly more) inr (or-later (λ never. never)) (Some (Sends o)) out (events_at is_opening more) (refused_at_end more) (files-explained env (Sends o) before more),
+      explained-by (OpenedBadly more) (⊥ ⊎ OpenedBadly more) inr (or-later (λ never. never)) (Some (Sends o)) out (events_at is_opening more)
+          (refused_at_end more) (files-explained env (Sends o) before more),
     )
 prepared-then env o y front rest out (none, inr other) more = absurd (cc other)
 

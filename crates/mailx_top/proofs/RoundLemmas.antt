@@ -180,7 +180,8 @@ module _ (env : Environment) (actor : List ℕ) (token : ℕ) where
 
   -- a line, and the round that follows it
   then-rounds : (o : Outcome) (Leads : Bool → RunState → Type 0) (i : Input) (p : Play (Next SessionState Status)) (k : Next SessionState Status → Play (Next RunState Status)) → Lines actor token o p
-      → ((b : Bool) (s : SessionState) → IsAfter actor token o b s → Rounds false Leads (EndsAs o) ((false, b), i) (k (Go s))) → ((met : Met) (e : Status) → EndsSo (EndsAs o) met.0 e → Rounds false Leads (EndsAs o) (met, i) (k (Last e)))
+      → ((b : Bool) (s : SessionState) → IsAfter actor token o b s → Rounds false Leads (EndsAs o) ((false, b), i) (k (Go s)))
+      → ((met : Met) (e : Status) → EndsSo (EndsAs o) met.0 e → Rounds false Leads (EndsAs o) (met, i) (k (Last e)))
       → Rounds false Leads (EndsAs o) (nothing_met, i) (bind p k)
   then-rounds o Leads i p k obeys on over = lifted (LineEnds (IsAfter actor token o) (EndsAs o)) Leads (EndsAs o) nothing_met i p k obeys each
     where
@@ -216,7 +217,8 @@ module _ (env : Environment) (actor : List ℕ) (token : ℕ) where
   turn-obeys : (s : SessionState) (j : Input) (line : Option (List ℕ)) → IsOf actor token s → Reads s.outcome j (turn s j line)
   turn-obeys s j None of = behind-obeys (is_drafting s) s j of
   turn-obeys s j (Some line) of =
-      then-rounds s.outcome (Leading s.outcome IsReadingState) j (typed_play s line) (with_input j) (typed-obeys actor token s.outcome s line (of, refl)) (λ b t of. (refl, of.0, (tt, of.1))) (λ met e is. is)
+      then-rounds s.outcome (Leading s.outcome IsReadingState) j (typed_play s line) (with_input j)
+      (typed-obeys actor token s.outcome s line (of, refl)) (λ b t of. (refl, of.0, (tt, of.1))) (λ met e is. is)
 
   next-obeys : (b : Bool) (s : SessionState) (i : Input) → IsOf actor token s → Reads s.outcome i (bind (prompted b s.desk) (λ u. Ask (Line i) (λ a. turn s a.1 a.0)))
   next-obeys true s i of = ((tt, refl, tt), λ u. ((refl, refl, tt), λ a. turn-obeys s a.1 a.0 of))
@@ -234,7 +236,8 @@ module _ (env : Environment) (actor : List ℕ) (token : ℕ) where
 
   drafts-obey : (b : Bool) (s : SessionState) (i : Input) → IsOf actor token s → Reads s.outcome i (if b then bind (ended_draft s) (with_finishing i) else Ret (Go (Leaving (rested s) i)))
   drafts-obey true s i of =
-      then-rounds s.outcome (Leading s.outcome IsReadingState) i (ended_draft s) (with_finishing i) (ended-obeys actor token s.outcome s (of, λ is. is)) (λ b t of. (refl, of.0, (tt, of.1))) (λ met e is. is)
+      then-rounds s.outcome (Leading s.outcome IsReadingState) i (ended_draft s) (with_finishing i)
+      (ended-obeys actor token s.outcome s (of, λ is. is)) (λ b t of. (refl, of.0, (tt, of.1))) (λ met e is. is)
   drafts-obey false s i of = (refl, rested-of actor token s of, (tt, rested-came s))
 
   finishing-obeys : (s : SessionState) (i : Input) (next : Option (WaitingLine × List Pending)) → IsOf actor token s → Reads s.outcome i (finishing_round s i next)
@@ -262,7 +265,8 @@ module _ (env : Environment) (actor : List ℕ) (token : ℕ) where
   said-obeys o None of = (refl, of, (tt, λ is. is))
   said-obeys o (Some line) of = ((tt, refl, tt), λ u. (refl, of, (tt, λ is. is)))
 
-  recovered-obeys : (o : Options) (a : RecoveryAnswer) → IsOf actor token (first_of env (Some (words.Opens o))) → Rounds false (Leading outcome.Fine (λ y. Unit {0})) IsPlain (met_by nothing_met (Recover actor token) a, no_input) (recovered env o a)
+  recovered-obeys : (o : Options) (a : RecoveryAnswer) → IsOf actor token (first_of env (Some (words.Opens o)))
+      → Rounds false (Leading outcome.Fine (λ y. Unit {0})) IsPlain (met_by nothing_met (Recover actor token) a, no_input) (recovered env o a)
   recovered-obeys o (recovery.Done f) of = said-obeys o (heard_recovery o.exists f) of
   recovered-obeys o (recovery.Busy name) of = ((tt, refl, tt), λ u. (refl, refl, tt))
   recovered-obeys o recovery.NotARecord of = refl
@@ -321,7 +325,8 @@ module _ (env : Environment) (actor : List ℕ) (token : ℕ) where
   -- what an opening leads to, as a round
   opens-so : (o : Outcome) (w : Status) (p : Play (Next RunState Status)) → Opens o w p → Rounds true (Leading o IsReadingState) IsPlain (nothing_met, no_input) p
   opens-so o w p obeys =
-      obeys-weaker (May loads_nothing) after_act (May (may_load true)) (OpenEnds o w) (RoundEnds (Leading o IsReadingState) IsPlain) (λ x act may. (may.0, may-all true act may.1, may.2)) ends (nothing_met, no_input) p obeys
+      obeys-weaker (May loads_nothing) after_act (May (may_load true)) (OpenEnds o w) (RoundEnds (Leading o IsReadingState) IsPlain)
+      (λ x act may. (may.0, may-all true act may.1, may.2)) ends (nothing_met, no_input) p obeys
     where
       ends : (x : Standing) (n : Next RunState Status) → OpenEnds o w x n → RoundEnds (Leading o IsReadingState) IsPlain x n
       ends ((true, b), i) (Go y) never = absurd never
@@ -334,7 +339,8 @@ module _ (env : Environment) (actor : List ℕ) (token : ℕ) where
   short-obeys true s o name line of = ((tt, refl, tt), λ f. opens-so s.outcome (end_of o.folder f) (loaded s o name f) (loaded-obeys s o name f of))
   short-obeys false s o name line of = ((tt, refl, tt), λ u. (refl, refl, tt))
 
-  named-obeys : (s : SessionState) (o : Options) (name : OrFault (List ℕ)) → IsOf actor token s → Rounds true (Leading s.outcome IsReadingState) IsPlain (nothing_met, no_input) (with_name_or_fault s o name)
+  named-obeys : (s : SessionState) (o : Options) (name : OrFault (List ℕ)) → IsOf actor token s
+      → Rounds true (Leading s.outcome IsReadingState) IsPlain (nothing_met, no_input) (with_name_or_fault s o name)
   named-obeys s o (Ok name) of = short-obeys (is_short_name (placed s.here name)) s o name _ of
   named-obeys s o (Err line) of = ((tt, refl, tt), λ u. (refl, refl, tt))
 
@@ -352,12 +358,14 @@ module _ (env : Environment) (actor : List ℕ) (token : ℕ) where
   round-obeys (Reading s i) of = line-obeys s i (next_waiting s) of
   round-obeys (Finishing s i) of = finishing-obeys s i (next_waiting s) of
   round-obeys (Leaving s i) of =
-      lifted (RunEnds (LeavesAs s.outcome)) (Leading s.outcome IsReadingState) (LeavesAs s.outcome) nothing_met i (leaving s) (λ e. Ret (Last e)) (leaving-obeys actor token s.outcome s (of, refl)) (λ met e is. is)
+      lifted (RunEnds (LeavesAs s.outcome)) (Leading s.outcome IsReadingState) (LeavesAs s.outcome) nothing_met i (leaving s) (λ e. Ret (Last e))
+      (leaving-obeys actor token s.outcome s (of, refl)) (λ met e is. is)
 
   -- ---- what is read off that
 
   -- the input is handed on
-  obeys-threads : (opens : Bool) (Leads : Bool → RunState → Type 0) (Exits : Status → Type 0) (met : Met) (i : Input) (p : Play (Next RunState Status)) → Rounds opens Leads Exits (met, i) p → Threads (NextFrom input_of) i p
+  obeys-threads : (opens : Bool) (Leads : Bool → RunState → Type 0) (Exits : Status → Type 0) (met : Met) (i : Input)
+      (p : Play (Next RunState Status)) → Rounds opens Leads Exits (met, i) p → Threads (NextFrom input_of) i p
   obeys-threads opens Leads Exits (true, b) i (Ret (Go y)) never = absurd never
   obeys-threads opens Leads Exits (false, b) i (Ret (Go y)) is = is.0
   obeys-threads opens Leads Exits met i (Ret (Last e)) is = tt
@@ -392,7 +400,8 @@ threads-round env x = any-round env _ x (λ actor token of.
 -- where a folder is opened each load that fails cuts the run off, and elsewhere none does
 pub loads-round : (env : Environment) (x : RunState) → AllActs (may_load (is_opening x)) (round env x)
 loads-round env x = any-round env _ x (λ actor token of.
-    obeys-acts (May env actor token (may_load (is_opening x))) after_act (may_load (is_opening x)) (RoundEnds env actor token (Leading (outcome_in x) (LeadsFrom x)) (ExitsFrom x)) (λ y act may. may.1) (nothing_met, input_of x) (round env x)
+    obeys-acts (May env actor token (may_load (is_opening x))) after_act (may_load (is_opening x))
+    (RoundEnds env actor token (Leading (outcome_in x) (LeadsFrom x)) (ExitsFrom x)) (λ y act may. may.1) (nothing_met, input_of x) (round env x)
     (round-obeys env actor token x of))
 
 -- where a round leads, and how it ends the run
@@ -410,11 +419,14 @@ goes-over env x es e goes = goes-ends (EndsFrom x) (round env x) es (Last e) (en
 -- each commit of a round is one of the run
 pub round-commits : (env : Environment) (actor : List ℕ) (token : ℕ) (x : RunState) → StateOf env actor token x → EachCommit (IsBy actor token) (round env x)
 round-commits env actor token x of =
-    obeys-commits (May env actor token (may_load (is_opening x))) after_act (IsBy actor token) (RoundEnds env actor token (Leading (outcome_in x) (LeadsFrom x)) (ExitsFrom x)) (λ y act may. may.2) (nothing_met, input_of x) (round env x)
+    obeys-commits (May env actor token (may_load (is_opening x))) after_act (IsBy actor token)
+    (RoundEnds env actor token (Leading (outcome_in x) (LeadsFrom x)) (ExitsFrom x)) (λ y act may. may.2) (nothing_met, input_of x) (round env x)
     (round-obeys env actor token x of)
 
 -- and each round leaves a state of its actor and token
 pub round-of : (env : Environment) (actor : List ℕ) (token : ℕ) (x : RunState) → StateOf env actor token x → AllEnds (NextKeeps (StateOf env actor token)) (round env x)
 round-of env actor token x of =
-    obeys-ends (May env actor token (may_load (is_opening x))) after_act (RoundEnds env actor token (Leading (outcome_in x) (LeadsFrom x)) (ExitsFrom x)) (NextKeeps (StateOf env actor token)) (ends-of env actor token (Leading (outcome_in x) (LeadsFrom x)) (ExitsFrom x))
+    obeys-ends (May env actor token (may_load (is_opening x))) after_act
+    (RoundEnds env actor token (Leading (outcome_in x) (LeadsFrom x)) (ExitsFrom x)) (NextKeeps (StateOf env actor token))
+    (ends-of env actor token (Leading (outcome_in x) (LeadsFrom x)) (ExitsFrom x))
     (nothing_met, input_of x) (round env x) (round-obeys env actor token x of)

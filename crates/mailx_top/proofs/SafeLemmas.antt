@@ -17,7 +17,7 @@ use Rattle.play_safety.proofs.DecidedLemmas.{run-decided}
 use Rattle.session_state.specs.declared.status.Status.{Status}
 use Rattle.mailx_top.specs.declared.environment.Environment.{Environment}
 use Rattle.mailx_top.specs.Words.{Start, may_say, start_of}
-use Rattle.mailx_top.specs.Meaning.{Recovering, round, actor_in}
+use Rattle.mailx_top.specs.Meaning.{Recovering, round, actor_in, actor_said}
 use Rattle.mailx_top.specs.Statuses.{line_at_end}
 use Rattle.mailx_top.specs.Runs.{Ending, IsRun}
 use Rattle.mailx_top.specs.Crash.{IsSafe}
@@ -29,7 +29,8 @@ pub ending-looks : (actor : List ℕ) (may : Bool) (s : Status) (out : Result St
 ending-looks actor may s (Ok e) es end = end-looks may (line_at_end actor e) es end.1
 ending-looks actor may s (Err cause) es end = cut-looks may cause es end.1
 
-pub safely : (start : Option Start) (env : Environment) (s : Status) (d : Disk) (es : List Event) → env.token < 2 ^ 64 → Honest d es → MayCommit (actor_in env) env.token d es → IsRun start env s (own es) → IsSafe start env s d es
+pub safely : (start : Option Start) (env : Environment) (s : Status) (d : Disk) (es : List Event) → env.token < 2 ^ 64 → Honest d es
+    → MayCommit (actor_in env) env.token d es → IsRun start env s (own es) → IsSafe start env s d es
 safely start env s d es fits honest may run =
     let w = run.whole in
     let actor = actor_in env in
@@ -37,7 +38,7 @@ safely start env s d es fits honest may run =
     let front = parts.0 in
     let rest = parts.1 in
     let read = read-loop (round env) d front parts.3 w.plays in
-    let ending = subst (Ending actor (may_say start) s w.out) (sym parts.4) w.ending in
+    let ending = subst (Ending (actor_said env) (may_say start) s w.out) (sym parts.4) w.ending in
     let run_so : MayRun actor env.token d (front ++ rest) = record {
       fits = fits;
       fresh = may.fresh;
@@ -57,5 +58,5 @@ safely start env s d es fits honest may run =
       answered = run-decided (round env) (Recovering (start_of start env.pairs)) actor env.token d front rest read.0 w.out (StateOf env actor env.token)
           (round-commits env actor env.token) (round-of env actor env.token) (refl, refl) run_so read.1;
       safe = subst C (sym parts.2) (run-safe (round env) (Recovering (start_of start env.pairs)) actor env.token d front rest read.0 w.out (StateOf env actor env.token)
-          (round-commits env actor env.token) (round-of env actor env.token) (refl, refl) run_so read.1 (ending-looks actor (may_say start) s w.out (own rest) ending));
+          (round-commits env actor env.token) (round-of env actor env.token) (refl, refl) run_so read.1 (ending-looks (actor_said env) (may_say start) s w.out (own rest) ending));
     }

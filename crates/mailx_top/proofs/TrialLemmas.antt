@@ -29,7 +29,7 @@ use Rattle.play_likeness.specs.Outside.{Outside, Gives}
 use Rattle.mailx_top.specs.declared.environment.Environment.{Environment}
 use Rattle.mailx_top.specs.Alike.{IsRunFrom, RunsAreAlike}
 use Rattle.mailx_top.specs.AlikeTrials.{IsUncut, TrialsAreAlike, TriesAreAlike}
-use Rattle.mailx_top.specs.Meaning.{actor_in}
+use Rattle.mailx_top.specs.Meaning.{actor_said}
 use Rattle.mailx_top.specs.Runs.{IsRun}
 use Rattle.mailx_top.specs.Statuses.{status_at_stop}
 use Rattle.mailx_top.specs.Trying.{trial_words, trial_env, IsTrial, summary}
@@ -141,17 +141,20 @@ ends-later : (bytes : List ℕ) (failed : Bool) (es : List Event) (left : List �
 ends-later [] failed es left ends = (both (is_nothing (taken es ++ left)) (ends_once es left) ends).1
 ends-later (b ∷ bytes) failed es left ends = ends
 
-silent : (program : List ℕ) (args : List (List ℕ)) (input : List ℕ) (answer : Option ChildAnswer) (failed : Bool) → Child program args input (Some silence) false ≡ Child program args input answer failed → Some silence ≡ answer
+silent : (program : List ℕ) (args : List (List ℕ)) (input : List ℕ) (answer : Option ChildAnswer) (failed : Bool)
+    → Child program args input (Some silence) false ≡ Child program args input answer failed → Some silence ≡ answer
 silent program args input answer failed is = cc is
 
-left-alone : (name shell command text : List ℕ) (answer : Option EditAnswer) (failed : Bool) → Edit name shell command text (idle_editor text) false ≡ Edit name shell command text answer failed → answer ≡ idle_editor text
+left-alone : (name shell command text : List ℕ) (answer : Option EditAnswer) (failed : Bool)
+    → Edit name shell command text (idle_editor text) false ≡ Edit name shell command text answer failed → answer ≡ idle_editor text
 left-alone name shell command text answer failed is = cc is
 
 stands : (seconds : ℤ) → Now (pos 0) ≡ Now seconds → pos 0 ≡ seconds
 stands seconds is = cc is
 
 -- more than enough gives what plain events take
-gives : (k n m : ℕ) (text left : List ℕ) (es : List Event) → length es ≤ k → length es ≤ n → length es ≤ m → map plainly es ≡ es → text ≡ taken es ++ left → ends_once es left ≡ true → (p : Outside) × Gives (outside k n m text) es p
+gives : (k n m : ℕ) (text left : List ℕ) (es : List Event) → length es ≤ k → length es ≤ n → length es ≤ m → map plainly es ≡ es
+    → text ≡ taken es ++ left → ends_once es left ≡ true → (p : Outside) × Gives (outside k n m text) es p
 gives k n m text left [] many edits times plain takes ends = (outside k n m text, refl)
 gives k n m text left (In bytes failed ∷ es) many edits times plain takes ends =
     let r = gives k n m (taken es ++ left) left es (omega arith) (omega arith) (omega arith) (rest-plain (In bytes failed) es plain) refl (ends-later bytes failed es left ends) in
@@ -174,7 +177,8 @@ gives k n m text left (e ∷ es) many edits times plain takes ends = gives k n m
 
 -- ---- how a run of plain events ends
 
-module _ (start : Option Start) (env : Environment) (d : Disk) (left : List ℕ) (s : Status) (es : List Event) (run : IsRun start env s es) (honest : Honest d es) (goes : GoesPlainly es left) (uncut : IsUncut s) where
+module _ (start : Option Start) (env : Environment) (d : Disk) (left : List ℕ) (s : Status) (es : List Event) (run : IsRun start env s es)
+    (honest : Honest d es) (goes : GoesPlainly es left) (uncut : IsUncut s) where
   plain-run : map plainly run.whole.front ≡ run.whole.front
   plain-run =
       let P : List Event → Type 0 = λ l. map plainly l ≡ l in
@@ -199,7 +203,7 @@ module _ (start : Option Start) (env : Environment) (d : Disk) (left : List ℕ)
 
   -- it came to its end
   ended : run.whole.out ≡ Ok s
-  ended = go (comes (actor_in env) (may_say start) s run.whole.out run.whole.behind run.whole.ending)
+  ended = go (comes (actor_said env) (may_say start) s run.whole.out run.whole.behind run.whole.ending)
     where
       go : Comes s run.whole.out → run.whole.out ≡ Ok s
       go (inl is) = is

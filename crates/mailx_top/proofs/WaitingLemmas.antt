@@ -96,7 +96,8 @@ rested-round : (env : Environment) (s : SessionState) (i : Input) → next_waiti
 rested-round env s i none_left = rested-as env s i s.draft none_left
 
 -- the lines that wait are rounds
-pub waiting-leads : (env : Environment) (i : Input) {s : SessionState} {es : List Event} {out : Result (Next SessionState Status) Stop} → WaitingGo s es out → LeadsTo env (Reading s i) es (onward i out)
+pub waiting-leads : (env : Environment) (i : Input) {s : SessionState} {es : List Event} {out : Result (Next SessionState Status) Stop}
+    → WaitingGo s es out → LeadsTo env (Reading s i) es (onward i out)
 waiting-leads env i {s = s} (none none_left) = λ rest out loop. same-round env (Reading s i) (Reading (rested s) i) (rested-round env s i none_left) loop
 waiting-leads env i {s = s} {es = es} (more {t = t} {out = out} line frames front rest is_next is goes later) =
     leads-more env (Reading s i) (Reading t i) front rest es (onward i out) is
@@ -207,7 +208,8 @@ rested-file-as : (env : Environment) (start : Start) (s : SessionState) (names :
 rested-file-as env start s names (Some m) none_left = refl
 rested-file-as env start s names None none_left = ap (file_round start (with_draft s None) names) none_left
 
-rested-file : (env : Environment) (start : Start) (s : SessionState) (names : List (List ℕ)) → next_waiting s ≡ None → round env (Preparing start s names) ≡ round env (Preparing start (rested s) names)
+rested-file : (env : Environment) (start : Start) (s : SessionState) (names : List (List ℕ)) → next_waiting s ≡ None
+    → round env (Preparing start s names) ≡ round env (Preparing start (rested s) names)
 rested-file env start s names none_left = rested-file-as env start s names s.draft none_left
 
 -- the lines of a start-up file are rounds
@@ -233,7 +235,8 @@ next-round : (env : Environment) (start : Start) (s : SessionState) (names : Lis
 next-round env start s names is = ap (file_round start s names) (none_waits s is) ∙ ap (λ (t : SessionState). next_file start t names) (rested-same s is)
 
 -- so is a start-up file
-pub file-goes : (env : Environment) (start : Start) (s : SessionState) (name : List ℕ) (names : List (List ℕ)) → IsSession s → {es : List Event} {out : Result (Next SessionState Status) Stop} → StartupGoes s name es out
+pub file-goes : (env : Environment) (start : Start) (s : SessionState) (name : List ℕ) (names : List (List ℕ)) → IsSession s
+    → {es : List Event} {out : Result (Next SessionState Status) Stop} → StartupGoes s name es out
     → LeadsTo env (Preparing start s (name ∷ names)) es (onward-files start names out)
 file-goes env start s name names is {es = es} {out = out} (begun {t = t} front rest parts goes waits) =
     leads-more env (Preparing start s (name ∷ names)) (Preparing start t names) front rest es (onward-files start names out) parts
@@ -245,20 +248,23 @@ file-goes env start s name names is {es = es} (files.unread {cause = cause} goes
     (goes-cut (startup_play s name) (with_files start names) cause es goes))
 
 -- after the last file the folder is opened
-pub last-leads : (env : Environment) (x : RunState) (start : Start) (t : SessionState) (r : Result (Unit {0}) Stop) → IsSession t → (es : List Event) → LeadsTo env x es (after_file start [] t r) → LeadsTo env x es (after_files start t r)
+pub last-leads : (env : Environment) (x : RunState) (start : Start) (t : SessionState) (r : Result (Unit {0}) Stop) → IsSession t → (es : List Event)
+    → LeadsTo env x es (after_file start [] t r) → LeadsTo env x es (after_files start t r)
 last-leads env x start t (Ok u) is es leads = λ rest out loop.
     leads rest out (again [] rest refl (subst (λ (p : Play (Next RunState Status)). Goes p [] (Ok (Go (Opening (Some start) t)))) (sym (next-round env start t [] is)) (refl, inl refl)) loop)
 last-leads env x start t (Err cause) is es leads = leads
 
 -- what leads on, from where other events led
-pub leads-then : (env : Environment) (x y : RunState) (out : Result (Next RunState Status) Stop) (es fs : List Event) → LeadsTo env x es (Ok (Go y)) → LeadsTo env y fs out → LeadsTo env x (es ++ fs) out
+pub leads-then : (env : Environment) (x y : RunState) (out : Result (Next RunState Status) Stop) (es fs : List Event) → LeadsTo env x es (Ok (Go y))
+    → LeadsTo env y fs out → LeadsTo env x (es ++ fs) out
 leads-then env x y (Ok (Go z)) es fs first second = λ rest end loop.
     subst (λ (l : List Event). Loop (round env) x l end) (sym (append_assoc es fs rest)) (first (fs ++ rest) end (second rest end loop))
 leads-then env x y (Ok (Last e)) es fs first second = first fs (Ok e) second
 leads-then env x y (Err cause) es fs first second = first fs (Err cause) second
 
 -- where the run is to be silent no start-up file is read
-pub silent-loop : (env : Environment) (start : Start) → (options_of start).exists ≡ true → (es : List Event) (out : Result Status Stop) → Loop (round env) (Opening (Some start) (first_of env (Some start))) es out
+pub silent-loop : (env : Environment) (start : Start) → (options_of start).exists ≡ true → (es : List Event) (out : Result Status Stop)
+    → Loop (round env) (Opening (Some start) (first_of env (Some start))) es out
     → Loop (round env) (prepared env start) es out
 silent-loop env start silent es out loop =
     let s = first_of env (Some start) in
@@ -267,7 +273,8 @@ silent-loop env start silent es out loop =
 
 -- elsewhere they are
 pub aloud-loop : (env : Environment) (start : Start) → (options_of start).exists ≡ false → (es : List Event) (out : Result Status Stop)
-    → Loop (round env) (Preparing start (first_of env (Some start)) (files_with (options_of start).no_system_file (first_of env (Some start)).desk.places.rc)) es out → Loop (round env) (prepared env start) es out
+    → Loop (round env) (Preparing start (first_of env (Some start))
+    (files_with (options_of start).no_system_file (first_of env (Some start)).desk.places.rc)) es out → Loop (round env) (prepared env start) es out
 aloud-loop env start aloud es out loop =
     let s = first_of env (Some start) in
     let named : startup_files (options_of start) s.desk.places ≡ files_with (options_of start).no_system_file s.desk.places.rc = cond-false _ _ _ aloud in
@@ -362,7 +369,8 @@ behind-leads : (env : Environment) (j : Input) {s : SessionState} {es : List Eve
     → LeadsTo env (behind_input s j) es (onward-left j out)
 behind-leads env j {s = s} over (rounds.finished free) = λ rest out loop.
     subst (λ (x : RunState). Loop (round env) x rest out) (sym (cond-false (is_drafting s) (Finishing s j) (Leaving (rested s) j) free)) loop
-behind-leads env j {s = s} {es = es} {out = out} over (rounds.onward front rest drafting is first later) = drafting-leads env s j es out drafting over (rounds.onward front rest drafting is first later)
+behind-leads env j {s = s} {es = es} {out = out} over (rounds.onward front rest drafting is first later) =
+    drafting-leads env s j es out drafting over (rounds.onward front rest drafting is first later)
 behind-leads env j {s = s} {es = es} {out = out} over (rounds.left drafting goes) = drafting-leads env s j es out drafting over (rounds.left drafting goes)
 behind-leads env j {s = s} {es = es} {out = out} over (rounds.lost drafting goes) = drafting-leads env s j es out drafting over (rounds.lost drafting goes)
 

@@ -11,7 +11,7 @@ use Rattle.play_safety.specs.Safe.{IsCrashSafe, AllAnswersAreDecided}
 use Rattle.session_state.specs.declared.status.Status.{Status}
 use Rattle.mailx_top.specs.declared.environment.Environment.{Environment}
 use Rattle.mailx_top.specs.Words.{Start, may_say, start_of}
-use Rattle.mailx_top.specs.Meaning.{Recovering, round, actor_in}
+use Rattle.mailx_top.specs.Meaning.{Recovering, round, actor_in, actor_said}
 use Rattle.mailx_top.specs.Runs.{Ending}
 
 -- The events of a run, steps of others among them, carry out its meaning, and then what its ending adds. The commits that are accepted are read
@@ -24,6 +24,6 @@ pub record IsSafe (start : Option Start) (env : Environment) (s : Status) (d : D
   pub commits : Commits
   pub is : es ≡ front ++ rest
   pub plays : PassesAll (round env) (Recovering (start_of start env.pairs)) d front commits out
-  pub ending : Ending (actor_in env) (may_say start) s out (own rest)
+  pub ending : Ending (actor_said env) (may_say start) s out (own rest)
   pub safe : IsCrashSafe (actor_in env) env.token d es commits out
   pub answered : AllAnswersAreDecided plays

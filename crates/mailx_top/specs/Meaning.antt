@@ -40,7 +40,7 @@ use Rattle.mailx_session.specs.Startup.{startup_play}
 use Rattle.mailx_session.specs.Leaving.{leaving}
 use Rattle.mailx_top.specs.declared.environment.Environment.{Environment}
 use Rattle.message_show.specs.Summary.{page_text}
-use Rattle.mailx_vars.specs.Environment.{Pairs}
+use Rattle.mailx_vars.specs.Environment.{Pairs, places_in}
 use Rattle.mailx_top.specs.declared.words.Manner.{Manner}
 use Rattle.mailx_top.specs.declared.words.Manner.TheVariants.{Silent, Rows, Quiet, Greeting}
 use Rattle.mailx_top.specs.Words.{Start, Opens, Sends, options_of, folder_word, manner_of}
@@ -215,6 +215,10 @@ first_of env (Some start) =
 -- the actor of a run's commits
 abbrev pub actor_in : Environment → List ℕ
 actor_in env = (first_of env None).actor
+
+-- that actor as it is said: the home folder in its name is as it was typed
+abbrev pub actor_said : Environment → List ℕ
+actor_said env = (places_in env.pairs).home ++ codes "/.mailx"
 
 -- the draft begins, and then its lines are read
 abbrev pub sending : SessionState → Options → Play (Next RunState Status)

@@ -12,7 +12,7 @@ use Rattle.session_play.specs.Play.{Whole}
 use Rattle.session_play.specs.Causes.{IsExplained, events_at, commits_in}
 use Rattle.session_state.specs.declared.status.Status.{Status}
 use Rattle.mailx_top.specs.declared.environment.Environment.{Environment}
-use Rattle.mailx_top.specs.Meaning.{Recovering, round, actor_in, is_recovering, is_opening}
+use Rattle.mailx_top.specs.Meaning.{Recovering, round, actor_in, actor_said, is_recovering, is_opening}
 use Rattle.mailx_top.specs.Leavings.{refused_at_end, last_outcome, IsUnsentExplained}
 use Rattle.mailx_top.specs.Openings.{OpenedBadly, IsOpeningExplained}
 use Rattle.mailx_top.specs.Starts.{IsExplainedFrom}
@@ -55,7 +55,7 @@ SaysUnlessIdle may (Err cause) front behind = may ≡ true → behind ≡ [] →
 -- its record exactly when its recovery or a commit of it met one that can't be read. How the recovery ended its own
 -- events tell; a run that sends makes none.
 pub record IsRun (start : Option Start) (env : Environment) (s : Status) (es : List Event) : Type 0 where
-  pub whole : Whole (round env) (Recovering (start_of start env.pairs)) (Ending (actor_in env) (may_say start) s) es
+  pub whole : Whole (round env) (Recovering (start_of start env.pairs)) (Ending (actor_said env) (may_say start) s) es
   pub said : SaysUnlessIdle (may_say start) whole.out whole.front whole.behind
   pub explained : IsExplained whole.out whole.front (events_at is_opening whole.plays) (commits_in whole.plays)
   pub record_met : IsRecordExplained whole.out (some_unreadable_in whole.plays)

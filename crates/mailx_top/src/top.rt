@@ -6,7 +6,7 @@ ghost use Rattle.host_port.specs.Ran.{Ran};
 ghost use Rattle.host_port.specs.declared.event.Event.{Event};
 ghost use Rattle.session_play.specs.Play.{Play, Loop, Caused};
 ghost use Rattle.mailx_vars.specs.Environment.{knows_user};
-ghost use Rattle.mailx_top.specs.Meaning.{round, first_of, actor_in, files_with, prepared, Recovering, Preparing, Opening};
+ghost use Rattle.mailx_top.specs.Meaning.{round, first_of, actor_in, actor_said, files_with, prepared, Recovering, Preparing, Opening};
 ghost use Rattle.mailx_top.specs.Openings.{OpensBadly};
 ghost use Rattle.mailx_top.specs.Complete.{IsStill, IsComplete};
 ghost use Rattle.mailx_top.specs.Runs.{IsRun, SaysLast, SaysAtEnd};
@@ -35,7 +35,7 @@ use command_words::Wanted;
 use commit_machine::record_name;
 use host_port::Host;
 use mail_text::{Items, Memory, Text};
-use mailx_session::{Session, Status, actor_of, front_of};
+use mailx_session::{Session, Status};
 use mailx_vars::Places;
 use session_play::Stop;
 use std::alloc::Global;
@@ -233,14 +233,22 @@ fn not_a_record(alloc: Global, actor: &[u8]) -> Result<Text, Memory>
     Ok(line)
 }
 
-// The line of the run's own record, if it can't be read.
+// The actor of a home folder, as it is said.
+fn actor_said(alloc: Global, home: &[u8]) -> Result<Text, Memory>
+    ensures { IfOk result (λ actor. actor ≡ home.now ++ codes "/.mailx") }
+{
+    let mut actor = Text::copy(alloc, home)?;
+    actor.push(b"/.mailx")?;
+    Ok(actor)
+}
+
+// The line of the run's own record, if it can't be read: the home folder in its name is as it was typed.
 fn record_line(alloc: Global, env: &Environment) -> Result<Text, Memory>
-    ensures { IfOk result (λ line. line ≡ not_a_record (actor_in env.now)) }
+    ensures { IfOk result (λ line. line ≡ not_a_record (actor_said env.now)) }
 {
     match Places::read(alloc, env.pairs.items())? {
         Some(places) => {
-            let here = front_of(alloc, env.folder.bytes())?;
-            let actor = actor_of(alloc, here.bytes(), places.home.bytes())?;
+            let actor = actor_said(alloc, places.home.bytes())?;
             not_a_record(alloc, actor.bytes())
         }
         None => Err(Memory),
@@ -250,7 +258,7 @@ fn record_line(alloc: Global, env: &Environment) -> Result<Text, Memory>
 // An end with its line.
 fn end_of(alloc: Global, env: &Environment, status: Status) -> Result<End, Memory>
     ensures status { IfOk result (λ end. end.status ≡ status) }
-    ensures line { IfOk result (λ end. end.line ≡ line_at_end (actor_in env.now) status) }
+    ensures line { IfOk result (λ end. end.line ≡ line_at_end (actor_said env.now) status) }
 {
     let line = match status {
         Status::BadRecord => Some(record_line(alloc, env)?),
@@ -271,7 +279,7 @@ fn play_to_end<H: Host>(
         (ended_as result)) }
     ensures cause { Caused (H.world.counts host.old) (H.world.counts host.new) result }
     ensures named { EndsAsNamed env.now (start_of (may_start asked.entry) env.now.pairs) (ended_as result) }
-    ensures line { IfOk result (λ end. end.line ≡ line_at_end (actor_in env.now) end.status) }
+    ensures line { IfOk result (λ end. end.line ≡ line_at_end (actor_said env.now) end.status) }
 {
     match play(alloc, host, asked, env) {
         Ok(status) => match end_of(alloc, env, status) {

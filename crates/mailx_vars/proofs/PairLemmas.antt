@@ -102,7 +102,8 @@ apart-append : (x name : List ℕ) (names : List (List ℕ)) → AllByRecursion 
 apart-append x name [] h last = (last, tt)
 apart-append x name (y ∷ ys) h last = (h.0, apart-append x name ys h.1 last)
 
-new-apart : (e : List ℕ × List ℕ) (es : Settings) (name : List ℕ) (b : Bool) → bytes_eq name e.0 ≡ b → is_some (if b then Some e.1 else value_of es name) ≡ false → (bytes_eq name e.0 ≡ false) × (is_set es name ≡ false)
+new-apart : (e : List ℕ × List ℕ) (es : Settings) (name : List ℕ) (b : Bool) → bytes_eq name e.0 ≡ b
+    → is_some (if b then Some e.1 else value_of es name) ≡ false → (bytes_eq name e.0 ≡ false) × (is_set es name ≡ false)
 new-apart e es name true same new = absurd (true≢false new)
 new-apart e es name false apart new = (apart, new)
 
@@ -146,7 +147,8 @@ without-named (p ∷ vars) name h =
     let parts = and_parts (is_variable_name p.0) (list_all is_variable_name (keys_of vars)) h in
     go (bytes_eq name p.0) parts.0 parts.1 (without-named vars name parts.1)
   where
-    go : (b : Bool) → is_variable_name p.0 ≡ true → list_all is_variable_name (keys_of vars) ≡ true → list_all is_variable_name (keys_of (without vars name)) ≡ true → list_all is_variable_name (keys_of (if b then vars else p ∷ without vars name)) ≡ true
+    go : (b : Bool) → is_variable_name p.0 ≡ true → list_all is_variable_name (keys_of vars) ≡ true
+        → list_all is_variable_name (keys_of (without vars name)) ≡ true → list_all is_variable_name (keys_of (if b then vars else p ∷ without vars name)) ≡ true
     go true first rest less = rest
     go false first rest less = and_from _ _ first less
 

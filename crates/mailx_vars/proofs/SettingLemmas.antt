@@ -34,7 +34,8 @@ found-last (p ∷ vars) name value other new = go (bytes_eq name p.0) refl (foun
 
     go : (b : Bool) → bytes_eq name p.0 ≡ b → (is_set vars name ≡ false → value_of (vars ++ (name, value) ∷ []) other ≡ (if bytes_eq other name then Some value else value_of vars other))
         → is_some (if b then Some p.1 else value_of vars name) ≡ false
-        → (if bytes_eq other p.0 then Some p.1 else value_of (vars ++ (name, value) ∷ []) other) ≡ (if bytes_eq other name then Some value else (if bytes_eq other p.0 then Some p.1 else value_of vars other))
+        → (if bytes_eq other p.0 then Some p.1 else value_of (vars ++ (name, value) ∷ []) other)
+        ≡ (if bytes_eq other name then Some value else (if bytes_eq other p.0 then Some p.1 else value_of vars other))
     go true same rest h = absurd (true≢false h)
     go false apart rest h =
         at-first (bytes_eq other p.0) (bytes_eq other name)

@@ -43,7 +43,8 @@ OccursAt-ends_with b p long h =
     let n = length (take p b) in
     let count : n ≡ p = omega (arith, length-take p b) in
     let back : (p - 2) + 2 ≡ p = omega arith in
-    let part : two_feeds ≡ drop (n - 2) (take p b) = sym (ap (λ (m : ℕ). drop (m - 2) (take p b)) count ∙ ap (λ (m : ℕ). drop (p - 2) (take m b)) (sym back) ∙ drop-take (p - 2) 2 b ∙ OccursAt-part b two_feeds (p - 2) h) in
+    let part : two_feeds ≡ drop (n - 2) (take p b) =
+    sym (ap (λ (m : ℕ). drop (m - 2) (take p b)) count ∙ ap (λ (m : ℕ). drop (p - 2) (take m b)) (sym back) ∙ drop-take (p - 2) 2 b ∙ OccursAt-part b two_feeds (p - 2) h) in
     (bytes_eq-Decides two_feeds (drop (n - 2) (take p b))).1 part
 
 pub is_start-true : (b : List ℕ) (p : ℕ) → is_start b p ≡ true → IsStart b p

@@ -111,7 +111,8 @@ at-item : {A : Type 0} (ps : List (List ℕ × A)) (i : ℕ) (item : List ℕ ×
 at-item ps i item q lt is = ap (λ r. lookup r q) (drop-cons ps i item lt ∙ ap (λ x. x ∷ drop (suc i) ps) (sym is) ∙ ap (λ j. item ∷ drop j ps) (sym (add-one i)))
 
 -- one more pair of a list, whose name is new
-pub copies-put : {A : Type 0} (old new : List (List ℕ × Option A)) (ps : List (List ℕ × A)) (i : ℕ) (item : List ℕ × A) (q name : List ℕ) (value : A) (whole : Option A) → i < length ps → item ≡ get_or ps i item
+pub copies-put : {A : Type 0} (old new : List (List ℕ × Option A)) (ps : List (List ℕ × A)) (i : ℕ) (item : List ℕ × A) (q name : List ℕ) (value : A)
+    (whole : Option A) → i < length ps → item ≡ get_or ps i item
     → name ≡ item.0 → value ≡ item.1 → named old name ≡ None → ((q : List ℕ) → named new q ≡ with_at (named old) name (Some value) q)
     → or_else (named old q) (lookup (drop i ps) q) ≡ whole → or_else (named new q) (lookup (drop (i + 1) ps) q) ≡ whole
 copies-put old new ps i item q name value whole lt is same_name same_value none put before =
@@ -147,7 +148,8 @@ pub show-none : {A : Type 0} (old found : Option A) (name : Option (List ℕ)) (
 show-none old found name q none = or-none old ∙ ap (λ n. or_else old (at_name n q found)) (sym none)
 
 -- the name at the place has no value
-pub show-absent : {A : Type 0} (old : Option A) (es : List (List ℕ × Option A)) (name : Option (List ℕ)) (n q : List ℕ) → name ≡ Some n → named es n ≡ None → old ≡ or_else old (at_name name q (named es q))
+pub show-absent : {A : Type 0} (old : Option A) (es : List (List ℕ × Option A)) (name : Option (List ℕ)) (n q : List ℕ) → name ≡ Some n
+    → named es n ≡ None → old ≡ or_else old (at_name name q (named es q))
 show-absent old es name n q is none =
     or-none old ∙ ap (or_else old) (sym (absent (bytes_eq q n) (λ t. ap (named es) ((bytes_eq-Decides q n).0 t) ∙ none))) ∙ ap (λ m. or_else old (at_name m q (named es q))) (sym is)
   where
@@ -165,11 +167,13 @@ lookup-append (x ∷ xs) n v q = go (bytes_eq q x.0) (lookup-append xs n v q)
     go false rest = rest
 
 -- the name at the place has a value, which is put
-pub show-value : {A : Type 0} (old new : List (List ℕ × A)) (es : List (List ℕ × Option A)) (name : Option (List ℕ)) (n m q : List ℕ) (v w : A) → name ≡ Some n → named es n ≡ Some v → m ≡ n → w ≡ v → new ≡ old ++ (m, w) ∷ []
+pub show-value : {A : Type 0} (old new : List (List ℕ × A)) (es : List (List ℕ × Option A)) (name : Option (List ℕ)) (n m q : List ℕ) (v w : A)
+    → name ≡ Some n → named es n ≡ Some v → m ≡ n → w ≡ v → new ≡ old ++ (m, w) ∷ []
     → lookup new q ≡ or_else (lookup old q) (at_name name q (named es q))
 show-value old new es name n m q v w is found same_name same_value put =
     ap (λ l. lookup l q) (put ∙ ap (λ k. old ++ (k, w) ∷ []) same_name ∙ ap (λ u. old ++ (n, u) ∷ []) same_value)
-    ∙ lookup-append old n v q ∙ ap (or_else (lookup old q)) (value (bytes_eq q n) (λ t. sym (ap (named es) ((bytes_eq-Decides q n).0 t) ∙ found))) ∙ ap (λ k. or_else (lookup old q) (at_name k q (named es q))) (sym is)
+    ∙ lookup-append old n v q ∙ ap (or_else (lookup old q)) (value (bytes_eq q n) (λ t. sym (ap (named es) ((bytes_eq-Decides q n).0 t) ∙ found)))
+    ∙ ap (λ k. or_else (lookup old q) (at_name k q (named es q))) (sym is)
   where
     value : (b : Bool) → (b ≡ true → Some v ≡ named es q) → (if b then Some v else None) ≡ (if b then named es q else None)
     value true h = h refl
@@ -210,8 +214,10 @@ or-same None = refl
 or-same (Some x) = refl
 
 -- one more name was looked at
-pub among-more : {A : Type 0} (names : List (List ℕ)) (k : ℕ) (q : List ℕ) (found new old : Option A) → new ≡ or_else old (at_name (slice_get names k) q found) → old ≡ among (take k names) q found → new ≡ among (take (k + 1) names) q found
-among-more names k q found new old step before = step ∙ ap (λ o. or_else o (at_name (slice_get names k) q found)) before ∙ go (slice_get names k) refl ∙ ap (λ j. among (take j names) q found) (sym (add-one k))
+pub among-more : {A : Type 0} (names : List (List ℕ)) (k : ℕ) (q : List ℕ) (found new old : Option A)
+    → new ≡ or_else old (at_name (slice_get names k) q found) → old ≡ among (take k names) q found → new ≡ among (take (k + 1) names) q found
+among-more names k q found new old step before =
+    step ∙ ap (λ o. or_else o (at_name (slice_get names k) q found)) before ∙ go (slice_get names k) refl ∙ ap (λ j. among (take j names) q found) (sym (add-one k))
   where
     joined : (a b : Bool) → or_else (if a then found else None) (if b then found else None) ≡ (if (a || b) then found else None)
     joined true true = or-same found
@@ -220,7 +226,8 @@ among-more names k q found new old step before = step ∙ ap (λ o. or_else o (a
 
     go : (n : Option (List ℕ)) → slice_get names k ≡ n → or_else (among (take k names) q found) (at_name n q found) ≡ among (take (suc k) names) q found
     go None e = sym (or-none _) ∙ ap (λ l. among l q found) (sym (take-past names k e))
-    go (Some n) e = joined (list_any (bytes_eq q) (take k names)) (bytes_eq q n) ∙ ap (λ (b : Bool). if b then found else None) (sym (any-append (take k names) n q)) ∙ ap (λ l. among l q found) (sym (take-more names k n e))
+    go (Some n) e = joined (list_any (bytes_eq q) (take k names)) (bytes_eq q n)
+        ∙ ap (λ (b : Bool). if b then found else None) (sym (any-append (take k names) n q)) ∙ ap (λ l. among l q found) (sym (take-more names k n e))
 
 absent-named : {A : Type 0} (es : List (List ℕ × Option A)) (q : List ℕ) → list_any (bytes_eq q) (names_of es) ≡ false → named es q ≡ None
 absent-named [] q none = refl
@@ -241,21 +248,24 @@ length-names (e ∷ es) = ap suc (length-names es)
 
 -- all names were looked at
 pub among-all : {A : Type 0} (es : List (List ℕ × Option A)) (n : ℕ) (q : List ℕ) (shown : Option A) → length es ≤ n → shown ≡ among (take n (names_of es)) q (named es q) → shown ≡ named es q
-among-all es n q shown past is = is ∙ ap (λ l. among l q (named es q)) (take-all n (names_of es) (let e = length-names es in omega arith)) ∙ ⊎_elim (λ t. cond-true _ _ _ t) (λ f. cond-false _ _ _ f ∙ sym (absent-named es q f)) (cases_Bool (list_any (bytes_eq q) (names_of es)))
+among-all es n q shown past is = is ∙ ap (λ l. among l q (named es q)) (take-all n (names_of es) (let e = length-names es in omega arith))
+    ∙ ⊎_elim (λ t. cond-true _ _ _ t) (λ f. cond-false _ _ _ f ∙ sym (absent-named es q f)) (cases_Bool (list_any (bytes_eq q) (names_of es)))
 
 names-append : {A : Type 0} (xs : List (List ℕ × A)) (n : List ℕ) (v : A) → names_of (xs ++ (n, v) ∷ []) ≡ names_of xs ++ n ∷ []
 names-append [] n v = refl
 names-append (x ∷ xs) n v = ap (λ r. x.0 ∷ r) (names-append xs n v)
 
 -- the name at the place has a value, and is put
-pub value-name : {A B : Type 0} (old new : List (List ℕ × B)) (es : List (List ℕ × Option A)) (name : Option (List ℕ)) (n m : List ℕ) (v : A) (w : B) → name ≡ Some n → named es n ≡ Some v → m ≡ n → new ≡ old ++ (m, w) ∷ []
+pub value-name : {A B : Type 0} (old new : List (List ℕ × B)) (es : List (List ℕ × Option A)) (name : Option (List ℕ)) (n m : List ℕ) (v : A) (w : B)
+    → name ≡ Some n → named es n ≡ Some v → m ≡ n → new ≡ old ++ (m, w) ∷ []
     → names_of new ≡ names_of old ++ with_value es name
 value-name old new es name n m v w is found same put =
     ap (λ l. names_of l) put ∙ names-append old m w ∙ ap (λ k. names_of old ++ k ∷ []) same
     ∙ ap (λ l. names_of old ++ l) (sym (ap (with_value es) is ∙ cond-true _ _ _ (ap is_some found)))
 
 -- one more name was looked at
-pub names-more : {A : Type 0} (es : List (List ℕ × Option A)) (k : ℕ) (new old : List (List ℕ)) → new ≡ old ++ with_value es (slice_get (names_of es) k) → old ≡ filter (has_value es) (take k (names_of es)) → new ≡ filter (has_value es) (take (k + 1) (names_of es))
+pub names-more : {A : Type 0} (es : List (List ℕ × Option A)) (k : ℕ) (new old : List (List ℕ))
+    → new ≡ old ++ with_value es (slice_get (names_of es) k) → old ≡ filter (has_value es) (take k (names_of es)) → new ≡ filter (has_value es) (take (k + 1) (names_of es))
 names-more es k new old step before =
     step ∙ ap (λ l. l ++ with_value es (slice_get (names_of es) k)) before ∙ go (slice_get (names_of es) k) refl ∙ ap (λ j. filter (has_value es) (take j (names_of es))) (sym (add-one k))
   where
@@ -282,11 +292,13 @@ once-filter p (n ∷ ns) h = go (p n) (once-filter p ns h.1)
     go false rest = rest
 
 -- all names were looked at, and those that have a value stand once
-pub names-once : {A B : Type 0} (es : List (List ℕ × Option A)) (shown : List (List ℕ × B)) (n : ℕ) → length es ≤ n → NamesOnce es → names_of shown ≡ filter (has_value es) (take n (names_of es)) → NamesOnce shown
+pub names-once : {A B : Type 0} (es : List (List ℕ × Option A)) (shown : List (List ℕ × B)) (n : ℕ) → length es ≤ n → NamesOnce es
+    → names_of shown ≡ filter (has_value es) (take n (names_of es)) → NamesOnce shown
 names-once es shown n past once is =
     subst (IsDistinct bytes_eq) (sym (is ∙ ap (filter (has_value es)) (take-all n (names_of es) (let e = length-names es in omega arith)))) (once-filter (has_value es) (names_of es) once)
 
-apart-pairs : {A : Type 0} (k : Key) (es : List (Key × A)) → AllByRecursion (λ (y : Key). bytes_eq k.items y.items ≡ false) (map.keys_of es) → AllByRecursion (λ y. bytes_eq k.items y ≡ false) (names_of (pairs_of es))
+apart-pairs : {A : Type 0} (k : Key) (es : List (Key × A)) → AllByRecursion (λ (y : Key). bytes_eq k.items y.items ≡ false) (map.keys_of es)
+    → AllByRecursion (λ y. bytes_eq k.items y ≡ false) (names_of (pairs_of es))
 apart-pairs k [] h = tt
 apart-pairs k (e ∷ es) h = (h.0, apart-pairs k es h.1)
 

@@ -16,7 +16,8 @@ use Rattle.message_list.proofs.ViewLemmas.{place_at, place_none, message_at}
 
 -- a message is live where its row is
 pub live-message : (shown : Shown) (n : ℕ) → 1 ≤ n → in_base shown Live n ≡ live_at shown.rows (n - 1)
-live-message shown n low = ap (λ (o : Option Row). option_map_or (λ (row : Row). is_live row.mark) o false) (cond-false (n == 0) None (slice_get shown.rows (n - 1)) (ne_eqb n 0 (λ e. absurd (omega (arith, low, e)))))
+live-message shown n low = ap (λ (o : Option Row). option_map_or (λ (row : Row). is_live row.mark) o false)
+    (cond-false (n == 0) None (slice_get shown.rows (n - 1)) (ne_eqb n 0 (λ e. absurd (omega (arith, low, e)))))
 
 module _ (shown : Shown) (valid : IsShown shown) (by_number : shown.order ≡ range_with_len 1 (length shown.order)) where
   -- message i + 1 stands at place i

@@ -62,7 +62,8 @@ some-there [] some = absurd (omega arith)
 some-there (n ∷ ns) some = refl
 
 -- a list that selects messages
-pub chosen-met : (purpose : Purpose) (shown : Shown) (texts : List (List ℕ)) (words : List (List ℕ)) (items : List Item) (ns : List ℕ) → AreItems words items → ns ≡ selection shown texts purpose items → first_missing shown texts purpose items ≡ None → 0 < length ns
+pub chosen-met : (purpose : Purpose) (shown : Shown) (texts : List (List ℕ)) (words : List (List ℕ)) (items : List Item) (ns : List ℕ)
+    → AreItems words items → ns ≡ selection shown texts purpose items → first_missing shown texts purpose items ≡ None → 0 < length ns
     → chosen purpose shown texts words ≡ Ok ns
 chosen-met purpose shown texts words items ns are is met some =
     chosen-read purpose shown texts words items are
@@ -71,7 +72,8 @@ chosen-met purpose shown texts words items ns are is met some =
     ∙ some-there ns some
 
 -- a list that selects none
-pub chosen-unmet : (purpose : Purpose) (shown : Shown) (texts : List (List ℕ)) (words : List (List ℕ)) (items : List Item) (e : ListError) → AreItems words items → IsUnmet shown texts purpose items e → IsChosen (Err e) (chosen purpose shown texts words)
+pub chosen-unmet : (purpose : Purpose) (shown : Shown) (texts : List (List ℕ)) (words : List (List ℕ)) (items : List Item) (e : ListError)
+    → AreItems words items → IsUnmet shown texts purpose items e → IsChosen (Err e) (chosen purpose shown texts words)
 chosen-unmet purpose shown texts words items (Syntax word) are never = absurd never
 chosen-unmet purpose shown texts words items (NoSuch word) are is =
     chosen-read purpose shown texts words items are ∙ ap (λ o. unless o NoSuch (some_message (selection shown texts purpose items))) is

@@ -38,8 +38,10 @@ filter-filter p q (x ∷ xs) =
     elim (cases_Bool (q x)) [
       | inr fail ↦ cond-false _ _ _ (and_right (p x) (q x) fail) ∙ filter-filter p q xs ∙ ap (filter p) (sym (cond-false (q x) (x ∷ filter q xs) (filter q xs) fail))
       | inl pass ↦ elim (cases_Bool (p x)) [
-        | inl here ↦ cond-true _ _ _ (and_from (p x) (q x) here pass) ∙ ap (λ ys. x ∷ ys) (filter-filter p q xs) ∙ sym (cond-true (p x) (x ∷ filter p (filter q xs)) (filter p (filter q xs)) here) ∙ ap (filter p) (sym (cond-true (q x) (x ∷ filter q xs) (filter q xs) pass))
-        | inr fail ↦ cond-false _ _ _ (and_left (p x) (q x) fail) ∙ filter-filter p q xs ∙ sym (cond-false (p x) (x ∷ filter p (filter q xs)) (filter p (filter q xs)) fail) ∙ ap (filter p) (sym (cond-true (q x) (x ∷ filter q xs) (filter q xs) pass))
+        | inl here ↦ cond-true _ _ _ (and_from (p x) (q x) here pass) ∙ ap (λ ys. x ∷ ys) (filter-filter p q xs)
+            ∙ sym (cond-true (p x) (x ∷ filter p (filter q xs)) (filter p (filter q xs)) here) ∙ ap (filter p) (sym (cond-true (q x) (x ∷ filter q xs) (filter q xs) pass))
+        | inr fail ↦ cond-false _ _ _ (and_left (p x) (q x) fail) ∙ filter-filter p q xs
+            ∙ sym (cond-false (p x) (x ∷ filter p (filter q xs)) (filter p (filter q xs)) fail) ∙ ap (filter p) (sym (cond-true (q x) (x ∷ filter q xs) (filter q xs) pass))
       ]
     ]
 
@@ -47,8 +49,10 @@ pub list_any-filter : {X : Type 0} (p q : X → Bool) (xs : List X) → list_any
 list_any-filter p q [] = refl
 list_any-filter p q (x ∷ xs) =
     elim (cases_Bool (q x)) [
-      | inr fail ↦ ap (λ (t : Bool). t || list_any (λ y. p y && q y) xs) (and_right (p x) (q x) fail) ∙ list_any-filter p q xs ∙ ap (list_any p) (sym (cond-false (q x) (x ∷ filter q xs) (filter q xs) fail))
-      | inl pass ↦ ap (λ (t : Bool). t || list_any (λ y. p y && q y) xs) (and_true (p x) (q x) pass) ∙ ap (λ (t : Bool). p x || t) (list_any-filter p q xs) ∙ ap (list_any p) (sym (cond-true (q x) (x ∷ filter q xs) (filter q xs) pass))
+      | inr fail ↦ ap (λ (t : Bool). t || list_any (λ y. p y && q y) xs) (and_right (p x) (q x) fail) ∙ list_any-filter p q xs
+          ∙ ap (list_any p) (sym (cond-false (q x) (x ∷ filter q xs) (filter q xs) fail))
+      | inl pass ↦ ap (λ (t : Bool). t || list_any (λ y. p y && q y) xs) (and_true (p x) (q x) pass)
+          ∙ ap (λ (t : Bool). p x || t) (list_any-filter p q xs) ∙ ap (list_any p) (sym (cond-true (q x) (x ∷ filter q xs) (filter q xs) pass))
     ]
 
 -- fail element passes
@@ -57,7 +61,8 @@ filter_nothing p [] d none = refl
 filter_nothing p (x ∷ xs) d none = cond-false _ _ _ (none 0 (omega arith)) ∙ filter_nothing p xs d (λ k h. none (suc k) (omega arith))
 
 -- one element passes alone
-pub filter_only : {X : Type 0} (p : X → Bool) (xs : List X) (i : ℕ) (d : X) → i < length xs → p (get_or xs i d) ≡ true → ((k : ℕ) → k < length xs → k ≢ i → p (get_or xs k d) ≡ false) → filter p xs ≡ get_or xs i d ∷ []
+pub filter_only : {X : Type 0} (p : X → Bool) (xs : List X) (i : ℕ) (d : X) → i < length xs → p (get_or xs i d) ≡ true
+    → ((k : ℕ) → k < length xs → k ≢ i → p (get_or xs k d) ≡ false) → filter p xs ≡ get_or xs i d ∷ []
 filter_only p [] i d lt here others = absurd (omega arith)
 filter_only p (x ∷ xs) zero d lt here others = cond-true _ _ _ here ∙ ap (λ ys. x ∷ ys) (filter_nothing p xs d (λ k h. others (suc k) (omega arith) (λ e. omega arith)))
 filter_only p (x ∷ xs) (suc i) d lt here others =
@@ -74,7 +79,8 @@ filter_some {X = X} p (x ∷ xs) any =
     ]
 
 -- the answer of a search, by what it found
-pub any_found : {X : Type 0} (p : X → Bool) (xs : List X) (d : X) (found : Bool) → (found ≡ true → (k : ℕ) × (k < length xs) × (p (get_or xs k d) ≡ true)) → (found ≡ false → (k : ℕ) → k < length xs → p (get_or xs k d) ≡ false) → found ≡ list_any p xs
+pub any_found : {X : Type 0} (p : X → Bool) (xs : List X) (d : X) (found : Bool)
+    → (found ≡ true → (k : ℕ) × (k < length xs) × (p (get_or xs k d) ≡ true)) → (found ≡ false → (k : ℕ) → k < length xs → p (get_or xs k d) ≡ false) → found ≡ list_any p xs
 any_found p xs d true pass fail = let h = pass refl in sym (list_any_at p xs h.0 d h.1 h.2)
 any_found p xs d false pass fail = sym (list_any_none p xs (All-from_get_or (λ x. p x ≡ false) xs d (fail refl)))
 

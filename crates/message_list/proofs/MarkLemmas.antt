@@ -34,7 +34,8 @@ pub marks_step : (hits : ℕ → Bool) (from place n : ℕ) (first old : List Bo
 marks_step hits from place n first old hit long low high same so_far p lt =
     elim (cases_eq p place) [
       | inl e ↦ get_or-set_at old place p (get_or old place false || hit) false e (omega arith)
-          ∙ ap (λ (t : Bool). t || hit) (so_far place high ∙ ap (λ (t : Bool). get_or first place false || t) (and_left _ (hits place) (and_right (nat_le from place) _ (le-ltb place place (omega arith)))))
+          ∙ ap (λ (t : Bool). t || hit) (so_far place high
+          ∙ ap (λ (t : Bool). get_or first place false || t) (and_left _ (hits place) (and_right (nat_le from place) _ (le-ltb place place (omega arith)))))
           ∙ or_again (get_or first place false) hit
           ∙ ap (λ (t : Bool). get_or first place false || t) (same ∙ ap hits (sym e))
           ∙ ap (λ q. get_or first q false || hits p) (sym e)

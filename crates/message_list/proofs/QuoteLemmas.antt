@@ -15,7 +15,8 @@ local_part-quoted author inside after content is =
     let at = quoted_place content after in
     let joined : whole ≡ front ++ after = ap (λ (bs : List ℕ). 34 ∷ bs) (sym (append_assoc inside (34 ∷ []) after)) in
     let long : length inside + 2 ≡ length front = omega (arith, length-append inside (34 ∷ [])) in
-    ap local_part is ∙ ap (quoted_or_before_at whole) at ∙ ap (take (length inside + 2)) joined ∙ ap (λ n. take n (front ++ after)) long ∙ take-append-le (length front) front after (omega arith) ∙ take_all (length front) front (omega arith)
+    ap local_part is ∙ ap (quoted_or_before_at whole) at ∙ ap (take (length inside + 2)) joined ∙ ap (λ n. take n (front ++ after)) long
+    ∙ take-append-le (length front) front after (omega arith) ∙ take_all (length front) front (omega arith)
 
 -- the local part of another one
 pub local_part-other : (author : List ℕ) → ((inside after : List ℕ) → IsQuotedContent inside → author ≡ 34 ∷ (inside ++ 34 ∷ after) → ⊥) → local_part author ≡ before_at author

@@ -70,7 +70,8 @@ module _ (shown : Shown) (texts : List (List ℕ)) (purpose : Purpose) where
       → ((k : ℕ) → k < i → finds shown texts purpose (get_or items k item) ≡ true) → finds shown texts purpose item ≡ false → IsNoSuch item.word e → IsMissing shown texts purpose items e
   missing items i item (Syntax w) lt here before none is = is
   missing items i item (NoSuch w) lt here before none is =
-      ap (option_map (λ x. x.word)) (find_first (λ x. not (finds shown texts purpose x)) items i item lt (λ k below. ap not (before k below)) (ap (λ (x : Item). not (finds shown texts purpose x)) (sym here) ∙ ap not none))
+      ap (option_map (λ x. x.word)) (find_first (λ x. not (finds shown texts purpose x)) items i item lt (λ k below. ap not (before k below))
+      (ap (λ (x : Item). not (finds shown texts purpose x)) (sym here) ∙ ap not none))
       ∙ ap (λ (x : Item). Some x.word) (sym here) ∙ ap Some (sym is)
   missing items i item NoneMatch lt here before none is = is
   missing items i item Memory lt here before none is = tt
@@ -80,7 +81,8 @@ module _ (shown : Shown) (texts : List (List ℕ)) (purpose : Purpose) where
   union_some [] some met = absurd (omega arith)
   union_some (item ∷ items) some met =
       elim (cases_Bool (finds shown texts purpose item)) [
-        | inl found ↦ filter_some (is_named shown texts purpose (item ∷ items)) (base_of shown purpose) (any_left (names shown texts purpose item) (is_named shown texts purpose items) (base_of shown purpose) found)
+        | inl found ↦ filter_some (is_named shown texts purpose (item ∷ items)) (base_of shown purpose)
+            (any_left (names shown texts purpose item) (is_named shown texts purpose items) (base_of shown purpose) found)
         | inr none ↦ let bad : Some item.word ≡ None =
             sym (ap (option_map (λ x. x.word)) (cond-true (not (finds shown texts purpose item)) (Some item) (find (λ x. not (finds shown texts purpose x)) items) (ap not none))) ∙ met in absurd (cc)
       ]
@@ -119,11 +121,13 @@ some_found (Ok v) union Met is met some = let P : List ℕ → Type 0 = λ xs. 0
 some_found (Err e) union Met is met some = tt
 
 -- what the answer has is in the base set
-pub base_found : (shown : Shown) (texts : List (List ℕ)) (purpose : Purpose) (items : List Item) (r : Result (Vec ℕ Global) ListError) → IfOk r (λ v. v.items ≡ selection shown texts purpose items) → IfOk r (λ v. All (λ n. in_base shown purpose n ≡ true) v.items)
+pub base_found : (shown : Shown) (texts : List (List ℕ)) (purpose : Purpose) (items : List Item) (r : Result (Vec ℕ Global) ListError)
+    → IfOk r (λ v. v.items ≡ selection shown texts purpose items) → IfOk r (λ v. All (λ n. in_base shown purpose n ≡ true) v.items)
 base_found shown texts purpose items (Ok v) is = All-same (λ n. in_base shown purpose n ≡ true) v.items (selection shown texts purpose items) is (base_all shown texts purpose items)
 base_found shown texts purpose items (Err e) is = tt
 
 -- and is a message
-pub messages_found : (shown : Shown) (purpose : Purpose) (r : Result (Vec ℕ Global) ListError) → IfOk r (λ v. All (λ n. in_base shown purpose n ≡ true) v.items) → IfOk r (λ v. All (λ n. (1 ≤ n) × (n ≤ length shown.rows)) v.items)
+pub messages_found : (shown : Shown) (purpose : Purpose) (r : Result (Vec ℕ Global) ListError)
+    → IfOk r (λ v. All (λ n. in_base shown purpose n ≡ true) v.items) → IfOk r (λ v. All (λ n. (1 ≤ n) × (n ≤ length shown.rows)) v.items)
 messages_found shown purpose (Ok v) is = All-weaker (λ n. in_base shown purpose n ≡ true) (λ n. (1 ≤ n) × (n ≤ length shown.rows)) (in_base-message shown purpose) v.items is
 messages_found shown purpose (Err e) is = tt

@@ -25,9 +25,11 @@ span_here shown valid k p at within = record {
   ordered = omega arith;
   within = omega arith;
   places = λ q lt. elim (cases_eq q p) [
-    | inl e ↦ eq-eqb _ _ (ap (λ i. get_or shown.order i 0) e ∙ eqb-true _ _ (position-Some (λ m. m == k) shown.order p 0 (sym at)).1) ∙ sym (and_from _ _ (le-leb p q (omega arith)) (lt-ltb q (p + 1) (omega arith)))
+    | inl e ↦ eq-eqb _ _ (ap (λ i. get_or shown.order i 0) e ∙ eqb-true _ _ (position-Some (λ m. m == k) shown.order p 0 (sym at)).1)
+        ∙ sym (and_from _ _ (le-leb p q (omega arith)) (lt-ltb q (p + 1) (omega arith)))
     | inr ne ↦ ne_eqb _ _ (λ same. let here : Some p ≡ Some q = at ∙ place_at shown valid q k lt same in let e : q ≡ p = cc in ne e)
-        ∙ sym (false_from_ne_true _ (λ both. let parts = and_parts (nat_le p q) (nat_lt q (p + 1)) both in let low : p ≤ q = leb-true p q parts.0 in let high : q < p + 1 = ltb-true q (p + 1) parts.1 in ne (omega arith)))
+        ∙ sym (false_from_ne_true _ (λ both. let parts = and_parts (nat_le p q) (nat_lt q (p + 1)) both in let low : p ≤ q = leb-true p q parts.0 in
+        let high : q < p + 1 = ltb-true q (p + 1) parts.1 in ne (omega arith)))
   ];
 }
 

@@ -102,13 +102,15 @@ flat_map-more f xs i within =
     ∙ flat_map-append f (take i xs) (get_or xs i 0 ∷ [])
     ∙ ap (λ (l : List ℕ). flat_map f (take i xs) ++ l) (append-nil (f (get_or xs i 0)))
 
-pub page-more : (shown : Shown) (first n width : ℕ) → first + n < length shown.order → page_text shown first (n + 1) width ≡ page_text shown first n width ++ with_feed (summary shown (get_or shown.order (first + n) 0) width)
+pub page-more : (shown : Shown) (first n width : ℕ) → first + n < length shown.order
+    → page_text shown first (n + 1) width ≡ page_text shown first n width ++ with_feed (summary shown (get_or shown.order (first + n) 0) width)
 page-more shown first n width within =
     let inside : n < length (drop first shown.order) = omega (arith, length-drop first shown.order) in
     flat_map-more (λ k. with_feed (summary shown k width)) (drop first shown.order) n inside
     ∙ ap (λ (k : ℕ). page_text shown first n width ++ with_feed (summary shown k width)) (get_or-drop first shown.order n 0)
 
-pub page-whole : (shown : Shown) (start lines first n width : ℕ) → first ≡ min start (length shown.order) → n ≡ min lines (length shown.order - first) → page_text shown first n width ≡ page_text shown start lines width
+pub page-whole : (shown : Shown) (start lines first n width : ℕ) → first ≡ min start (length shown.order) → n ≡ min lines (length shown.order - first)
+    → page_text shown first n width ≡ page_text shown start lines width
 page-whole shown start lines first n width is_first is_n =
     let count : n ≡ min lines (length (drop first shown.order)) = is_n ∙ ap (min lines) (sym (length-drop first shown.order)) in
     ap (λ (k : ℕ). summaries shown (take k (drop first shown.order)) width) count

@@ -64,7 +64,8 @@ take-ended zero ls none = refl
 take-ended (suc n) ls none = ap (take (suc n)) (none (omega arith))
 
 -- a line more: what stood before it, with the line and its line feed
-pub top-more : (top : List ℕ) (n m : ℕ) (ls rest : List (List ℕ)) (line : List ℕ) → ls ≡ line ∷ rest → m + 1 ≡ n → ((top ++ line) ++ 10 ∷ []) ++ flat_map with_feed (take m rest) ≡ top ++ flat_map with_feed (take n ls)
+pub top-more : (top : List ℕ) (n m : ℕ) (ls rest : List (List ℕ)) (line : List ℕ) → ls ≡ line ∷ rest → m + 1 ≡ n
+    → ((top ++ line) ++ 10 ∷ []) ++ flat_map with_feed (take m rest) ≡ top ++ flat_map with_feed (take n ls)
 top-more top n m ls rest line is count =
     ap (λ (x : List ℕ). x ++ flat_map with_feed (take m rest)) (append_assoc top line (10 ∷ []))
     ∙ append_assoc top (line ++ 10 ∷ []) (flat_map with_feed (take m rest))

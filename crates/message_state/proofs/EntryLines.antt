@@ -129,7 +129,8 @@ split-folded (l ∷ ls) lines =
     })
     (cases_Bool (is_folded l))
 
-stand-field : (within : Bool) (l : List ℕ) (ls : List (List ℕ)) → begins_field l ≡ true → IsLine l → AreLines ls → StandOn true (entries_from true ls) (past_folded ls) → StandOn within (entries_from within (l ∷ ls)) (lines_left within (l ∷ ls))
+stand-field : (within : Bool) (l : List ℕ) (ls : List (List ℕ)) → begins_field l ≡ true → IsLine l → AreLines ls
+    → StandOn true (entries_from true ls) (past_folded ls) → StandOn within (entries_from within (l ∷ ls)) (lines_left within (l ∷ ls))
 stand-field within l ls begins line lines later =
     let split = split-folded ls lines in
     let f = field_of (join_with_byte 10 (l ∷ take_while is_folded ls)) in
@@ -146,7 +147,8 @@ stand-field within l ls begins line lines later =
     } in
     subst (λ (es : List Entry). StandOn within es (lines_left within (l ∷ ls))) (sym (entries_from-field within l ls begins)) (past_folded ls, on, later)
 
-stand-other : (within : Bool) (l : List ℕ) (ls : List (List ℕ)) → begins_field l ≡ false → (within ≡ true → is_folded l ≡ false) → IsLine l → StandOn false (entries_from false ls) ls → StandOn within (entries_from within (l ∷ ls)) (lines_left within (l ∷ ls))
+stand-other : (within : Bool) (l : List ℕ) (ls : List (List ℕ)) → begins_field l ≡ false → (within ≡ true → is_folded l ≡ false) → IsLine l
+    → StandOn false (entries_from false ls) ls → StandOn within (entries_from within (l ∷ ls)) (lines_left within (l ∷ ls))
 stand-other within l ls plain apart line later =
     let on : IsOtherOn within l (lines_left within (l ∷ ls)) ls = record { whole = lines_left-unfolded within l ls apart; plain = plain; apart = apart; is_line = line } in
     subst (λ (es : List Entry). StandOn within es (lines_left within (l ∷ ls))) (sym (entries_from-plain within l ls plain apart)) (ls, on, later)
@@ -190,7 +192,21 @@ pub record HasLines (within : Bool) (es : List Entry) : Type 0 where
 field-HasLines : (within : Bool) (f : Field) (es : List Entry) (ls later : List (List ℕ)) → IsFieldOn f ls later → HasLines true es → HasLines within (field f ∷ es)
 field-HasLines within f es ls later on has = record {
   lines = on.first ∷ (on.folded ++ has.lines);
-  on = (has.lines, record { first = on.first; folded = on.folded; whole = refl; is = on.is; begins = on.begins; first_line = on.first_line; are_lines = on.are_lines; are_folded = on.are_folded }, has.on);
+  on = (
+    has.lines,
+    record {
+      first = on.first;
+      folded = on.folded;
+      whole = refl;
+      is = on.is;
+      begins = on.begins;
+      first_line =
+          on.first_line;
+      are_lines = on.are_lines;
+      are_folded = on.are_folded;
+    },
+    has.on,
+  );
 }
 
 other-HasLines : (within : Bool) (l : List ℕ) (es : List Entry) (ls later : List (List ℕ)) → IsOtherOn within l ls later → HasLines false es → HasLines within (other l ∷ es)
@@ -217,13 +233,37 @@ without-HasLines name within (field f ∷ es) ls on =
 
 -- ---- with a field last
 
-last-StandOn : (within : Bool) (es : List Entry) (ls : List (List ℕ)) (s : List ℕ) → begins_field s ≡ true → IsLine s → StandOn within es ls → StandOn within (es ++ field (field_of s) ∷ []) (ls ++ s ∷ [])
+last-StandOn : (within : Bool) (es : List Entry) (ls : List (List ℕ)) (s : List ℕ) → begins_field s ≡ true → IsLine s → StandOn within es ls
+    → StandOn within (es ++ field (field_of s) ∷ []) (ls ++ s ∷ [])
 last-StandOn within [] ls s begins line on =
     ([], record { first = s; folded = []; whole = ap (λ (x : List (List ℕ)). x ++ s ∷ []) on; is = refl; begins = begins; first_line = line; are_lines = tt; are_folded = tt }, refl)
-last-StandOn within (field f ∷ es) ls s begins line on =
-    (on.0 ++ s ∷ [], record { first = on.1.first; folded = on.1.folded; whole = ap (λ (x : List (List ℕ)). x ++ s ∷ []) on.1.whole ∙ ap (λ (x : List (List ℕ)). on.1.first ∷ x) (append_assoc on.1.folded on.0 (s ∷ [])); is = on.1.is; begins = on.1.begins; first_line = on.1.first_line; are_lines = on.1.are_lines; are_folded = on.1.are_folded }, last-StandOn true es on.0 s begins line on.2)
-last-StandOn within (other l ∷ es) ls s begins line on =
-    (on.0 ++ s ∷ [], record { whole = ap (λ (x : List (List ℕ)). x ++ s ∷ []) on.1.whole; plain = on.1.plain; apart = on.1.apart; is_line = on.1.is_line }, last-StandOn false es on.0 s begins line on.2)
+last-StandOn within (field f ∷ es) ls s begins line on = (
+  on.0 ++ s ∷ [],
+  record {
+    first = on.1.first;
+    folded = on.1.folded;
+    whole =
+        ap (λ (x : List (List ℕ)). x ++ s ∷ []) on.1.whole ∙ ap (λ (x : List (List ℕ)). on.1.first ∷ x) (append_assoc on.1.folded on.0 (s ∷ []));
+    is =
+        on.1.is;
+    begins = on.1.begins;
+    first_line = on.1.first_line;
+    are_lines = on.1.are_lines;
+    are_folded = on.1.are_folded;
+  },
+  last-StandOn true es on.0 s begins line on.2,
+)
+last-StandOn within (other l ∷ es) ls s begins line on = (
+  on.0 ++ s ∷ [],
+  record {
+    whole = ap (λ (x : List (List ℕ)). x ++ s ∷ []) on.1.whole;
+    plain = on.1.plain;
+    apart = on.1.apart;
+    is_line =
+        on.1.is_line;
+  },
+  last-StandOn false es on.0 s begins line on.2,
+)
 
 -- the entry of a field's line, none if its value is empty
 abbrev pub new_entries : List ℕ → List ℕ → List Entry

@@ -36,7 +36,8 @@ pub record HasNewValue (name value t s : List ℕ) : Type 0 where
 kept-lines : (name t : List ℕ) → HasLines false (without name (entries_of t))
 kept-lines name t = without-HasLines name false (entries_of t) (header_lines t) (entries-StandOn false (header_lines t) (header_lines-lines t))
 
-with_value-lines : (name value t : List ℕ) (kept : HasLines false (without name (entries_of t))) → with_value name value t ≡ from_line t ++ (after_feeds (kept.lines ++ field_lines name value) ++ body_part (body_of t))
+with_value-lines : (name value t : List ℕ) (kept : HasLines false (without name (entries_of t)))
+    → with_value name value t ≡ from_line t ++ (after_feeds (kept.lines ++ field_lines name value) ++ body_part (body_of t))
 with_value-lines name value t kept =
     with_value-parts name value t
     ∙ ap (λ (x : List ℕ). ((from_line t ++ x) ++ after_feeds (field_lines name value)) ++ body_part (body_of t)) (StandOn-bytes false (without name (entries_of t)) kept.lines kept.on)
@@ -95,7 +96,8 @@ find-none : (name another value : List ℕ) → (length name == length another) 
 find-none name another [] apart is = refl
 find-none name another (b ∷ bs) apart is = cond-false _ _ _ (other-name name another (field_of (name ++ codes ": " ++ b ∷ bs)) apart is.named)
 
-find-another : (name another : List ℕ) (es rest : List Entry) → (length name == length another) ≡ false → find_named another rest ≡ None → find_named another (without name es ++ rest) ≡ find_named another es
+find-another : (name another : List ℕ) (es rest : List Entry) → (length name == length another) ≡ false → find_named another rest ≡ None
+    → find_named another (without name es ++ rest) ≡ find_named another es
 find-another name another [] rest apart none = none
 find-another name another (other l ∷ es) rest apart none = find-another name another es rest apart none
 find-another name another (field f ∷ es) rest apart none =
@@ -110,7 +112,8 @@ find-another name another (field f ∷ es) rest apart none =
     (cases_Bool (is_named name (field f)))
 
 -- the first field of another name stays
-pub first-another : (name another value t s : List ℕ) → (length name == length another) ≡ false → IsFieldLine name value → HasNewValue name value t s → find_named another (entries_of s) ≡ find_named another (entries_of t)
+pub first-another : (name another value t s : List ℕ) → (length name == length another) ≡ false → IsFieldLine name value → HasNewValue name value t s
+    → find_named another (entries_of s) ≡ find_named another (entries_of t)
 first-another name another value t s apart is new =
     ap (find_named another) new.entries ∙ find-another name another (entries_of t) (new_entries name value) apart (find-none name another value apart is)
 

@@ -43,7 +43,8 @@ pub record AreFound (t : List ℕ) (es : List Entry) (fields : RowFields) : Type
   pub reply : found_with (codes "In-Reply-To") fields.reply es ≡ field_named (codes "In-Reply-To") t
 
 -- nothing was found before the first entry
-pub are_found_first : (t : List ℕ) (es : List Entry) → es ≡ entries_of t → AreFound t es (record { status = None; x_status = None; subject = None; from = None; to = None; date = None; message_id = None; references = None; reply = None })
+pub are_found_first : (t : List ℕ) (es : List Entry) → es ≡ entries_of t
+    → AreFound t es (record { status = None; x_status = None; subject = None; from = None; to = None; date = None; message_id = None; references = None; reply = None })
 are_found_first t es is = record {
   status = ap (find_named (codes "Status")) is;
   x_status = ap (find_named (codes "X-Status")) is;
@@ -56,7 +57,8 @@ are_found_first t es is = record {
   reply = ap (find_named (codes "In-Reply-To")) is;
 }
 
-one_step : (t name : List ℕ) (old new : Option Field) (e : Entry) (es : List Entry) → new ≡ or_entry name old e → found_with name old (e ∷ es) ≡ field_named name t → found_with name new es ≡ field_named name t
+one_step : (t name : List ℕ) (old new : Option Field) (e : Entry) (es : List Entry) → new ≡ or_entry name old e
+    → found_with name old (e ∷ es) ≡ field_named name t → found_with name new es ≡ field_named name t
 one_step t name old new e es is before = ap (λ (found : Option Field). found_with name found es) is ∙ found_step name old e es ∙ before
 
 pub are_found_step : (t : List ℕ) (old new : RowFields) (e : Entry) (es : List Entry) → AreWithEntry old e new → AreFound t (e ∷ es) old → AreFound t es new

@@ -41,7 +41,8 @@ drop_first (b ∷ bs) zero lt = refl
 drop_first (b ∷ bs) (suc at) lt = drop_first bs at (omega arith)
 
 -- the ids from a `<` on: its own, if it begins one, and those after what may stand inside of it
-pub ids_of_step : (rest tail inside : List ℕ) (at : ℕ) → at < length rest → ((k : ℕ) → k < at → get_or rest k 0 ≡ 60 → ⊥) → get_or rest at 0 ≡ 60 → tail ≡ drop at rest → inside ≡ drop 1 tail → ids_of rest ≡ id_first (id_behind inside) [] ++ ids_of (drop (inside_length inside) inside)
+pub ids_of_step : (rest tail inside : List ℕ) (at : ℕ) → at < length rest → ((k : ℕ) → k < at → get_or rest k 0 ≡ 60 → ⊥) → get_or rest at 0 ≡ 60
+    → tail ≡ drop at rest → inside ≡ drop 1 tail → ids_of rest ≡ id_first (id_behind inside) [] ++ ids_of (drop (inside_length inside) inside)
 ids_of_step rest tail inside at lt none is is_tail is_inside_of =
     let begins : drop at rest ≡ 60 ∷ inside =
     drop_first rest at lt ∙ ap (λ (b : ℕ). b ∷ drop 1 (drop at rest)) is ∙ ap (λ (bs : List ℕ). 60 ∷ drop 1 bs) (sym is_tail) ∙ ap (λ (bs : List ℕ). 60 ∷ bs) (sym is_inside_of) in

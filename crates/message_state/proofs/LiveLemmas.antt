@@ -108,7 +108,8 @@ row-behind s (x ∷ xs) row (suc j) = elim (row-behind s xs row j) [
 ]
 
 -- a row comes behind the others in a block that isn't flagged
-pub without-behind : (s : Standing) (rows : List Row) (flags : List Bool) (row : Row) → AreWithout s flags rows → flag_at flags (length rows / block_size) ≡ false → AreWithout s flags (rows ++ row ∷ [])
+pub without-behind : (s : Standing) (rows : List Row) (flags : List Bool) (row : Row) → AreWithout s flags rows
+    → flag_at flags (length rows / block_size) ≡ false → AreWithout s flags (rows ++ row ∷ [])
 without-behind s rows flags row without none j flag = elim (row-behind s rows row j) [
   | inl e ↦ absurd (false≢true (sym (ap (λ (n : ℕ). flag_at flags (n / block_size)) e ∙ none) ∙ flag))
   | inr same ↦ same ∙ without j flag

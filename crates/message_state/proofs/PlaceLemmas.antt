@@ -38,7 +38,8 @@ eqb_flips a b =
 pub apart_places : (n : ℕ) (xs : List ℕ) → IsPermutation (range_with_len 1 n) xs → (i j : ℕ) → i < j → j < length xs → get_or xs i 0 ≢ get_or xs j 0
 apart_places n xs all i j lt within e =
     let range : IsDistinct nat_eq (range_with_len 1 n) = IsDistinct-from_apart nat_eq (range_with_len 1 n)
-    (λ a b d below high. ne_eqb _ _ (λ same. let last : b < n = omega (arith, length-range_with_len 1 n) in let one = get_or-range_with_len 1 n a d (omega arith) in let two = get_or-range_with_len 1 n b d last in omega arith)) in
+    (λ a b d below high. ne_eqb _ _ (λ same. let last : b < n = omega (arith, length-range_with_len 1 n) in let one =
+    get_or-range_with_len 1 n a d (omega arith) in let two = get_or-range_with_len 1 n b d last in omega arith)) in
     let distinct = IsDistinct-IsPermutation nat_eq eqb_flips (range_with_len 1 n) xs all range in
     false≢true (sym (apart_from_distinct nat_eq xs i j 0 distinct lt within) ∙ eq-eqb _ _ e)
 

@@ -107,7 +107,8 @@ body-some (b ∷ bs) body is =
     record { front = b ∷ later.front; is = ap (λ (l : List ℕ). b ∷ l) later.is; none = before-more b bs later.front other later.none })
     (cases_Bool (has_two_feeds (b ∷ bs)))
   where
-    before-more : (b : ℕ) (bs front : List ℕ) → has_two_feeds (b ∷ bs) ≡ false → ((k : ℕ) → k < length front → has_two_feeds (drop k bs) ≡ false) → (k : ℕ) → k < length (b ∷ front) → has_two_feeds (drop k (b ∷ bs)) ≡ false
+    before-more : (b : ℕ) (bs front : List ℕ) → has_two_feeds (b ∷ bs) ≡ false → ((k : ℕ) → k < length front → has_two_feeds (drop k bs) ≡ false)
+        → (k : ℕ) → k < length (b ∷ front) → has_two_feeds (drop k (b ∷ bs)) ≡ false
     before-more b bs front other none zero lt = other
     before-more b bs front other none (suc k) lt = none k (omega arith)
 
@@ -143,7 +144,8 @@ breaks-same s t (Some body) of_s of_t none k there =
     (λ late.
     let i = k - length in_s.front in
     let place : k ≡ length in_s.front + i = omega arith in
-    let cut : OccursAt (in_s.front ++ (10 ∷ 10 ∷ body)) break_mark (length in_s.front + i) = subst (λ (n : ℕ). OccursAt (in_s.front ++ (10 ∷ 10 ∷ body)) break_mark n) place (subst (λ (l : List ℕ). OccursAt l break_mark k) in_s.is there) in
+    let cut : OccursAt (in_s.front ++ (10 ∷ 10 ∷ body)) break_mark (length in_s.front + i) =
+    subst (λ (n : ℕ). OccursAt (in_s.front ++ (10 ∷ 10 ∷ body)) break_mark n) place (subst (λ (l : List ℕ). OccursAt l break_mark k) in_s.is there) in
     let inside : OccursAt (10 ∷ 10 ∷ body) break_mark i = OccursAt-right_back in_s.front (10 ∷ 10 ∷ body) break_mark i cut in
     none (length in_t.front + i) (subst (λ (l : List ℕ). OccursAt l break_mark (length in_t.front + i)) (sym in_t.is) (OccursAt-right in_t.front (10 ∷ 10 ∷ body) break_mark i inside)))
     (cases_lt k (length in_s.front))
@@ -253,7 +255,8 @@ new-proper name value t s new proper =
     let begins : OccursAt s from_mark 0 = subst (λ (l : List ℕ). OccursAt l from_mark 0) (sym new.written) (OccursAt-left (from_line t) _ from_mark 0 (from-line t proper)) in
     proper-from s begins (breaks-same s t (body_of t) new.body refl (no-break t proper)) (ends-by t s new.lines (body_of t) refl new.body new.are_lines new.written (untrimmed-is t proper.ends))
   where
-    ends-by : (t s : List ℕ) (ls : List (List ℕ)) (body : Option (List ℕ)) → body_of t ≡ body → body_of s ≡ body_of t → AreLines ls → s ≡ from_line t ++ (after_feeds ls ++ body_part (body_of t)) → IsUntrimmed t → IsUntrimmed s
+    ends-by : (t s : List ℕ) (ls : List (List ℕ)) (body : Option (List ℕ)) → body_of t ≡ body → body_of s ≡ body_of t → AreLines ls
+        → s ≡ from_line t ++ (after_feeds ls ++ body_part (body_of t)) → IsUntrimmed t → IsUntrimmed s
     ends-by t s ls (Some body) of_t same lines written last = ends-same s t body (same ∙ of_t) of_t last
     ends-by t s ls None of_t same lines written last =
         let shape : s ≡ from_line t ++ after_feeds ls =

@@ -32,7 +32,8 @@ first_of-one one (Some f) a b x y = first-one one (unfolded f) a b x y
 
 row-same : (r s : Row) → r.mark ≡ s.mark → r.texts ≡ s.texts → r.references ≡ s.references → r.reply ≡ s.reply → r.moment ≡ s.moment → r.size ≡ s.size → r ≡ s
 row-same r s mark texts references reply moment size =
-    let made = λ (m : Mark) (t : Texts) (a : List (List ℕ)) (b : List (List ℕ)) (w : Option Moment) (k : ℕ). let row : Row = record { mark = m; texts = t; references = a; reply = b; moment = w; size = k } in row in
+    let made = λ (m : Mark) (t : Texts) (a : List (List ℕ)) (b : List (List ℕ)) (w : Option Moment) (k : ℕ). let row : Row =
+    record { mark = m; texts = t; references = a; reply = b; moment = w; size = k } in row in
     ap (λ (x : Mark). made x r.texts r.references r.reply r.moment r.size) mark
     ∙ ap (λ (x : Texts). made s.mark x r.references r.reply r.moment r.size) texts
     ∙ ap (λ (x : List (List ℕ)). made s.mark s.texts x r.reply r.moment r.size) references

@@ -231,7 +231,8 @@ stamp-keeps_letters t m same =
 -- ---- the mark of a stamped text
 
 abbrev marked_by : Bool → Bool → Flags → Mark
-marked_by read old flags = if read then record { state = Read; seen = true; flags = flags } else (if old then record { state = Unread; seen = false; flags = flags } else record { state = New; seen = false; flags = flags })
+marked_by read old flags = if read then record { state = Read; seen = true; flags = flags } else
+    (if old then record { state = Unread; seen = false; flags = flags } else record { state = New; seen = false; flags = flags })
 
 seen-by : (read old : Bool) (flags : Flags) → (marked_by read old flags).seen ≡ read
 seen-by true old flags = refl

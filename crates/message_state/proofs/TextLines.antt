@@ -43,7 +43,8 @@ lines_of-header l (m ∷ ls) body line lines =
     ∙ lines_of-before_feed l (m ++ (after_feeds ls ++ body_part body)) line.apart
     ∙ ap (λ (x : List (List ℕ)). l ∷ x) (lines_of-header m ls body lines.0 lines.1)
 
-lines_of-text : (from m : List ℕ) (ls : List (List ℕ)) (body : Option (List ℕ)) → HasNoFeed from → AreLines (m ∷ ls) → lines_of (from ++ (after_feeds (m ∷ ls) ++ body_part body)) ≡ from ∷ ((m ∷ ls) ++ lines_behind body)
+lines_of-text : (from m : List ℕ) (ls : List (List ℕ)) (body : Option (List ℕ)) → HasNoFeed from → AreLines (m ∷ ls)
+    → lines_of (from ++ (after_feeds (m ∷ ls) ++ body_part body)) ≡ from ∷ ((m ∷ ls) ++ lines_behind body)
 lines_of-text from m ls body apart lines =
     ap (λ (x : List ℕ). lines_of (from ++ 10 ∷ x)) (append_assoc m (after_feeds ls) (body_part body))
     ∙ lines_of-before_feed from (m ++ (after_feeds ls ++ body_part body)) apart

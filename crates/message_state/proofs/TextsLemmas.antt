@@ -48,7 +48,8 @@ ends-pushed s a n t o b1 b2 b3 b4 b5 i j k l p =
       within = omega (arith, p.fourth_end, five);
     }
 
-pub texts-pushed : (s a n t o b1 b2 b3 b4 b5 : List ℕ) (i j k l : ℕ) → ArePushed s a n t o b1 b2 b3 b4 b5 i j k l → texts_in b5 i j k l ≡ record { subject = s; author = a; shown_author = n; to = t; own_id = o }
+pub texts-pushed : (s a n t o b1 b2 b3 b4 b5 : List ℕ) (i j k l : ℕ) → ArePushed s a n t o b1 b2 b3 b4 b5 i j k l
+    → texts_in b5 i j k l ≡ record { subject = s; author = a; shown_author = n; to = t; own_id = o }
 texts-pushed s a n t o b1 b2 b3 b4 b5 i j k l p =
     let all : b5 ≡ (b3 ++ t) ++ o = p.fifth ∙ ap (λ (bs : List ℕ). bs ++ o) p.fourth in
     let later : b5 ≡ (b2 ++ n) ++ (t ++ o) = all ∙ append_assoc b3 t o ∙ ap (λ (bs : List ℕ). bs ++ (t ++ o)) p.third in

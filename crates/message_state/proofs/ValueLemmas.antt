@@ -180,7 +180,8 @@ draft-read false true false rest none = none
 draft-read false false true rest none = refl
 draft-read false false false rest none = none
 
-flags-made : (a f d answered flagged draft : Bool) → a ≡ answered → f ≡ flagged → d ≡ draft → ◌≡◌ {A = Flags} (record { answered = a; flagged = f; draft = d }) (record { answered = answered; flagged = flagged; draft = draft })
+flags-made : (a f d answered flagged draft : Bool) → a ≡ answered → f ≡ flagged → d ≡ draft
+    → ◌≡◌ {A = Flags} (record { answered = a; flagged = f; draft = d }) (record { answered = answered; flagged = flagged; draft = draft })
 flags-made a f d answered flagged draft one two three = λ j. record { answered = one j; flagged = two j; draft = three j }
 
 pub flags-read : (flags : Flags) (found : Option Field) → flags_in (flags_value flags found) ≡ flags

@@ -12,7 +12,8 @@ pub record Texts : Type 0 where
 
 -- the bytes, cut at the ends of the first four
 abbrev pub texts_in : List ℕ → ℕ → ℕ → ℕ → ℕ → Texts
-texts_in bytes subject author shown to = record { subject = take subject bytes; author = slice_range bytes subject author; shown_author = slice_range bytes author shown; to = slice_range bytes shown to; own_id = drop to bytes }
+texts_in bytes subject author shown to =
+    record { subject = take subject bytes; author = slice_range bytes subject author; shown_author = slice_range bytes author shown; to = slice_range bytes shown to; own_id = drop to bytes }
 
 -- the ends come in order, within the bytes
 pub record AreEnds (bytes : List ℕ) (subject author shown to : ℕ) : Type 0 where

@@ -38,7 +38,8 @@ module _ (names : List (List ℕ)) (places : BTreeMap Key ℕ) (all : ArePlacesO
       (cases_Bool (bytes_eq key.items text))
 
   -- the places of the first names
-  pub places-take : (count : ℕ) (new : BTreeMap Key ℕ) → IsOrdered (λ (x y : Key). slice_cmp nat_cmp x.items y.items) places → new.entries ≡ filter (λ e. nat_lt e.1 count) places.entries → ArePlacesOf (take count names) new
+  pub places-take : (count : ℕ) (new : BTreeMap Key ℕ) → IsOrdered (λ (x y : Key). slice_cmp nat_cmp x.items y.items) places
+      → new.entries ≡ filter (λ e. nat_lt e.1 count) places.entries → ArePlacesOf (take count names) new
   places-take count new ordered kept text =
       ap (lookup (at text)) kept
       ∙ found-kept (λ p. nat_lt p count) places ordered text

@@ -75,7 +75,9 @@ keys_total : IsTotalOrder (λ (x y : Key). slice_cmp nat_cmp x.items y.items)
 keys_total = on_total (λ (k : Key). k.items) nat_list_cmp_total
 
 -- what is found once the entry of a text is as told
-others : (old new : List (Key × ℕ)) (test other : Key → Bool) → KeepsOthers (eq_by_cmp (λ (x y : Key). slice_cmp nat_cmp x.items y.items)) test old new → IsKeyTest (eq_by_cmp (λ (x y : Key). slice_cmp nat_cmp x.items y.items)) other → AreApart test other → lookup other new ≡ lookup other old
+others : (old new : List (Key × ℕ)) (test other : Key → Bool)
+    → KeepsOthers (eq_by_cmp (λ (x y : Key). slice_cmp nat_cmp x.items y.items)) test old new
+    → IsKeyTest (eq_by_cmp (λ (x y : Key). slice_cmp nat_cmp x.items y.items)) other → AreApart test other → lookup other new ≡ lookup other old
 unfolding KeepsOthers
 others old new test other keeps = keeps other
 
@@ -97,7 +99,8 @@ found-kept test map ordered text = go (lookup (at text) map.entries) refl
   where
     go : (found : Option ℕ) → lookup (at text) map.entries ≡ found → lookup (at text) (filter (λ e. test e.1) map.entries) ≡ option_filter test (lookup (at text) map.entries)
     go None none =
-        lookup-none (at text) _ (recursion_from_All _ _ (All-filter (λ (e : Key × ℕ). test e.1) (λ e. at text e.0 ≡ false) map.entries (All-from_recursion _ map.entries (none_passes_from_lookup (at text) map.entries none))))
+        lookup-none (at text) _ (recursion_from_All _ _
+        (All-filter (λ (e : Key × ℕ). test e.1) (λ e. at text e.0 ≡ false) map.entries (All-from_recursion _ map.entries (none_passes_from_lookup (at text) map.entries none))))
         ∙ ap (option_filter test) (sym none)
     go (Some value) found =
         let place = place_from_lookup (at text) map.entries value found in

@@ -216,7 +216,8 @@ module _ (one_row : OneRow) (one_view : ViewsAreAlike) where
         let same : seen_at a ≡ seen_at b = one.0 ∙ sym two.0 in
         (sym (by-seen a) ∙ ap found_by same ∙ by-seen b, is ∙ ap (λ (s : Seen). event.Load name s ∷ []) same ∙ sym was, one.1, two.1)
 
-    child-same : (program : List ℕ) (args : List (List ℕ)) (input : List ℕ) (a b : Option ChildAnswer) → es ≡ event.Child program args input a (is_none a) ∷ [] → fs ≡ event.Child program args input b (is_none b) ∷ []
+    child-same : (program : List ℕ) (args : List (List ℕ)) (input : List ℕ) (a b : Option ChildAnswer)
+        → es ≡ event.Child program args input a (is_none a) ∷ [] → fs ≡ event.Child program args input b (is_none b) ∷ []
         → DidSame (Child program args input) a b d es fs i m j n
     child-same program args input a b is was =
         let one = (given-one d o m es _ is given).gives in

@@ -116,7 +116,8 @@ record LineSame (a b : Option (List ℕ) × Input) (d : Disk) (es fs : List Even
   leaves : disk d es ≡ disk d fs
   level : Level a.1 o b.1 p
 
-line-same : (d : Disk) (es fs : List Event) (i j : Input) (o m p n : Outside) (a b : Option (List ℕ) × Input) → IsGiven d o m es → IsGiven d p n fs → Level i o j p → Did (Line i) a es → Did (Line j) b fs
+line-same : (d : Disk) (es fs : List Event) (i j : Input) (o m p n : Outside) (a b : Option (List ℕ) × Input) → IsGiven d o m es → IsGiven d p n fs
+    → Level i o j p → Did (Line i) a es → Did (Line j) b fs
     → LineSame a b d es fs m n
 line-same d es fs i j o m p n a b given also level (k, reads, next) (l, takes, hands) =
     let one = line-taken es i k o m a reads next given.gives level.end in
@@ -196,7 +197,8 @@ module _ (one_row : OneRow) (one_view : ViewsAreAlike) where
       → ((x y : X) (i j : Input) → States x i y j → Alike (NextAlike States) i j (round x) (round y))
       → {x y : X} {es fs : List Event} {out other : Result R Stop} → Loop round x es out → Loop round y fs other → (r u : R) → out ≡ Ok r → other ≡ Ok u
       → (i j : Input) → States x i y j → (d : Disk) (o m p n : Outside) → Level i o j p → IsGiven d o m es → IsGiven d p n fs → LoopsGone r u d es fs
-  loop-alike round States each {es = es} {fs = fs} (again {x = x} {y = y} front rest is goes more) (again {x = x'} {y = y'} front' rest' was goes' more') r u done done' i j states d o m p n level given also =
+  loop-alike round States each {es = es} {fs = fs} (again {x = x} {y = y} front rest is goes more)
+      (again {x = x'} {y = y'} front' rest' was goes' more') r u done done' i j states d o m p n level given also =
       let g = given-apart d o m es front rest is given in
       let h = given-apart d p n fs front' rest' was also in
       let first = goes-alike (NextAlike States) (each x x' i j states) d o g.between p h.between front front' (Go y) (Go y') level goes goes' g.first h.first in

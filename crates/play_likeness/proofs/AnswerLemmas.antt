@@ -115,7 +115,8 @@ module _ (d : Disk) (es fs : List Event) (from : IsFrom d es) (of : IsFrom d fs)
       in
       (same.0, sym (end-answer files a x is) ∙ ap answer_of same.1 ∙ end-answer files b y also)
 
-  changes-same : (actor : List ℕ) (token : ℕ) (cs : List Change) (base : List (List ℕ)) (a b : Committed) → ToldOne es fs → IsCommit actor token cs base es (answer_as a) → IsCommit actor token cs base fs (answer_as b)
+  changes-same : (actor : List ℕ) (token : ℕ) (cs : List Change) (base : List (List ℕ)) (a b : Committed) → ToldOne es fs
+      → IsCommit actor token cs base es (answer_as a) → IsCommit actor token cs base fs (answer_as b)
       → (es ≡ fs) × (a ≡ b)
   changes-same actor token [] base a b told one two = (both-none es fs one.0 two.0, answer-same a b _ one.1 two.1)
   changes-same actor token (c ∷ cs) base a b told (inl (many, one)) (inl (more, two)) = (both-none es fs one.0 two.0, too-many _ a b one.1 two.1)
@@ -170,12 +171,12 @@ of-fine recovery.NotARecord = refl
 of-fine (recovery.TooLarge name n) = refl
 
 pub recovery-goes : (actor : List ℕ) (token : ℕ) (es : List Event) (a : RecoveryAnswer) → IsRecoveryOf actor token es (recovery_as a) → Goes (recovery_for actor token) Seizing es (Ended (end_of a))
-recovery-goes actor token es (recovery.Done recovered.Nothing) h = h
-recovery-goes actor token es (recovery.Done (recovered.RolledBack moment)) h = h
-recovery-goes actor token es (recovery.Done (recovered.Finished moment)) h = h
-recovery-goes actor token es (recovery.Busy name) h = h.1
-recovery-goes actor token es recovery.NotARecord h = h
-recovery-goes actor token es (recovery.TooLarge name n) h = h.1
+recovery-goes actor token es (recovery.Done recovered.Nothing) h = h.1
+recovery-goes actor token es (recovery.Done (recovered.RolledBack moment)) h = h.1
+recovery-goes actor token es (recovery.Done (recovered.Finished moment)) h = h.1
+recovery-goes actor token es (recovery.Busy name) h = h.1.1
+recovery-goes actor token es recovery.NotARecord h = h.1
+recovery-goes actor token es (recovery.TooLarge name n) h = h.1.1
 
 pub recovery-same : (d : Disk) (es fs : List Event) → IsFrom d es → IsFrom d fs → (actor : List ℕ) (token : ℕ) (a b : RecoveryAnswer)
     → IsRecoveryOf actor token es (recovery_as a) → IsRecoveryOf actor token fs (recovery_as b) → (es ≡ fs) × (a ≡ b)

@@ -215,7 +215,8 @@ load-seen d name (seen.TooLarge n) is tells = large-seen (d.files name) (is_some
 load-seen d name seen.Failed is tells = absurd tells
 load-seen d name seen.Memory is tells = absurd tells
 
-call-event : (j : Job) (s : State) (d : Disk) (c : Call) (e : Event) (es : List Event) → IsOf c e → Agrees d e → LoadsTell (e ∷ es) → (is_lost (after_reply j s (reply e)) ≡ true → ⊥) → e ≡ event_on d c
+call-event : (j : Job) (s : State) (d : Disk) (c : Call) (e : Event) (es : List Event) → IsOf c e → Agrees d e → LoadsTell (e ∷ es)
+    → (is_lost (after_reply j s (reply e)) ≡ true → ⊥) → e ≡ event_on d c
 call-event j s d c e es asks is tell found = refl
 call-event j s d c e es (loads {n = n} {s = seen}) is tell found = ap (event.Load n) (load-seen d n seen is tell.0)
 call-event j s d c e es stages is tell found = refl
@@ -341,7 +342,8 @@ module _ (j : Job) (t u : ℤ) (end : Ending) (unhindered : is_hindered end ≡ 
       let st = step (timed j t) end unhindered busy d e es g honest.0 tell in
       absurd (none-some (timed j t) busy (Refused (Busy (right_name j.actor))) st.call refl st.calls)
 
-  seized : (d : Disk) (got : Bool) (es : List Event) → Goes (timed j t) (went_on (timed j t) Seizing got) es (Ended end) → Honest d es → LoadsTell es → Either (event.Seize (right_name j.actor) got false ∷ es)
+  seized : (d : Disk) (got : Bool) (es : List Event) → Goes (timed j t) (went_on (timed j t) Seizing got) es (Ended end) → Honest d es → LoadsTell es
+      → Either (event.Seize (right_name j.actor) got false ∷ es)
   seized d true es g honest tell = inr (right-taken (right_name j.actor) d es g honest tell)
   seized d false es g honest tell = inl (right-busy d es g honest tell)
 

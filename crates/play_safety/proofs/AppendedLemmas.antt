@@ -39,7 +39,8 @@ listed : (files : Files) (n : List ℕ) (o : Result (Option (List ℕ)) ℕ) (l 
 listed files n (Ok file) l h = ap list_of_file (put-here files n file) ∙ h
 listed files n (Err at) l h = absurd (cc h)
 
-kept : (files : Files) (n : List ℕ) (P : Option (List ℕ) → Type 0) (Q : ℕ → Type 0) (o : Result (Option (List ℕ)) ℕ) → MatchResult o P Q → ((file : Option (List ℕ)) → P file → ⊥) → put_outcome files n o n ≡ files n
+kept : (files : Files) (n : List ℕ) (P : Option (List ℕ) → Type 0) (Q : ℕ → Type 0) (o : Result (Option (List ℕ)) ℕ) → MatchResult o P Q
+    → ((file : Option (List ℕ)) → P file → ⊥) → put_outcome files n o n ≡ files n
 kept files n P Q (Ok file) m other = absurd (other file m)
 kept files n P Q (Err at) m other = refl
 
@@ -70,7 +71,8 @@ unfolding apply
 after-alone files others change base n e = apply-alone (change ∷ []) base files others n e
 
 -- the only change of a file makes of it what all make
-only-one : (change : Change) (changes : List Change) (base : List (List ℕ)) (files : Files) → IsOnlyOne change changes → apply changes base files (name_of change) ≡ after files change base (name_of change)
+only-one : (change : Change) (changes : List Change) (base : List (List ℕ)) (files : Files) → IsOnlyOne change changes
+    → apply changes base files (name_of change) ≡ after files change base (name_of change)
 unfolding apply
 only-one change changes base files one =
     let n = name_of change in
@@ -191,7 +193,7 @@ module _ (actor : List ℕ) (token : ℕ) where
   front-empty fl (x ∷ c) e behind few is = absurd (let k = ap length is in let m = length-append c (e ∷ behind) in omega (arith, few, k, m))
 
   -- what stands before the decision is a front of the run
-  front-of : (d : Disk) (es front behind : List Event) (e : Event) (now : Disk) → IsLeft d es (front ++ e ∷ behind) now → (rest : List Event) × (es ≡ front ++ rest)
+  pub front-of : (d : Disk) (es front behind : List Event) (e : Event) (now : Disk) → IsLeft d es (front ++ e ∷ behind) now → (rest : List Event) × (es ≡ front ++ rest)
   front-of d es front behind e now (at_moment rest is at) = (e ∷ (behind ++ rest), is ∙ append_assoc front (e ∷ behind) rest)
   front-of d es front behind e now (at_stop a b x part is l at) = go (stands-in a (in_flight (disk d a) x part) front e behind (sym l))
     where
@@ -201,7 +203,7 @@ module _ (actor : List ℕ) (token : ℕ) where
           let none : c ≡ [] = front-empty (in_flight (disk d a) x part) c e behind (flight-length (disk d a) x part) back in
           (x ∷ b, is ∙ ap (λ (l : List Event). a ++ (l ++ x ∷ b)) (sym none) ∙ sym (append_assoc a c (x ∷ b)) ∙ ap (λ (l : List Event). l ++ x ∷ b) (sym same))
 
-  left-due : {R : Type 0} (d : Disk) (es : List Event) (commits : Commits) (out : Result R Stop) (l : List Event) (now : Disk) → IsCrashSafe actor token d es commits out → IsLeft d es l now
+  pub left-due : {R : Type 0} (d : Disk) (es : List Event) (commits : Commits) (out : Result R Stop) (l : List Event) (now : Disk) → IsCrashSafe actor token d es commits out → IsLeft d es l now
       → IsRunDue actor token d (queue commits) l now
   left-due d es commits out l now safe (at_moment rest is at) = subst (λ (w : Disk). IsRunDue actor token d (queue commits) l w) (sym at) (safe.moments l rest is)
   left-due d es commits out l now safe (at_stop front rest e part is same at) =
@@ -223,7 +225,7 @@ module _ (actor : List ℕ) (token : ℕ) where
       subst (IsRewritten c.base list (settled n)) (sym is) (rewritten-so settled n list c.base keep proper)
 
   -- what a commit makes of a file from its decision on
-  left-made : {R : Type 0} (d : Disk) (es : List Event) (commits : Commits) (out : Result R Stop) → IsCrashSafe actor token d es commits out
+  pub left-made : {R : Type 0} (d : Disk) (es : List Event) (commits : Commits) (out : Result R Stop) → IsCrashSafe actor token d es commits out
       → (front behind : List Event) (e : Event) (now : Disk) (c : Commit) (n : List ℕ)
       → IsLeft d es (front ++ e ∷ behind) now → Decides actor token d commits front e c → LeaveAlone actor token n (host.after (disk d front) e) behind
       → settled_files actor now n ≡ apply c.changes c.base (settled_files actor (disk d front)) n
@@ -302,7 +304,8 @@ module _ (actor : List ℕ) (token : ℕ) where
         },
       )
 
-pub all-followed : {R : Type 0} (actor : List ℕ) (token : ℕ) (d : Disk) (es : List Event) (commits : Commits) (out : Result R Stop) → IsCrashSafe actor token d es commits out → AreFollowed actor token d es commits
+pub all-followed : {R : Type 0} (actor : List ℕ) (token : ℕ) (d : Disk) (es : List Event) (commits : Commits) (out : Result R Stop)
+    → IsCrashSafe actor token d es commits out → AreFollowed actor token d es commits
 all-followed actor token d es commits out safe = record {
   accepted = accepted-decided actor token d es commits out safe;
   rewrites = rewrites-followed actor token d es commits out safe;

@@ -29,7 +29,8 @@ module _ (actor : List ℕ) (token : ℕ) where
     pub stops : (a b : List Event) (e : Event) (part : Part) → es ≡ a ++ e ∷ b → Due actor token d queue files owners (a ++ in_flight (disk d a) e part) (stopped (disk d a) e part)
 
   -- events that only look leave what is due, whatever others do
-  pub looking : (es : List Event) (d : Disk) (queue : List (List Edit)) (files : Files) (owners : Locks) → IsSettledAs actor d files owners → OnlyLooks (own es) → OthersAreLawful actor token d es → Due actor token d queue files owners es (disk d es)
+  pub looking : (es : List Event) (d : Disk) (queue : List (List Edit)) (files : Files) (owners : Locks) → IsSettledAs actor d files owners
+      → OnlyLooks (own es) → OthersAreLawful actor token d es → Due actor token d queue files owners es (disk d es)
   looking [] d queue files owners s looks lawful = record { same_files = s.same_files; same_locks = s.same_locks; sound = s.sound }
   looking (event.Foreign f ∷ es) d queue files owners s looks lawful =
       let j = first_job actor token queue in
@@ -51,14 +52,17 @@ module _ (actor : List ℕ) (token : ℕ) where
     looked : (a b : List Event) → OnlyLooks (own (a ++ b)) → OthersAreLawful actor token d (a ++ b) → Due actor token d queue files owners a (disk d a)
     looked a b looks lawful = looking a d queue files owners s (looks-front a b looks) (lawful_front (first_job actor token queue) a b d lawful)
 
-    stopped-looking : (a es b : List Event) (now : Disk) → disk (disk d a) es ≡ now → OnlyLooks (own (a ++ (es ++ b))) → OthersAreLawful actor token d (a ++ (es ++ b)) → Due actor token d queue files owners (a ++ es) (ended now)
+    stopped-looking : (a es b : List Event) (now : Disk) → disk (disk d a) es ≡ now → OnlyLooks (own (a ++ (es ++ b)))
+        → OthersAreLawful actor token d (a ++ (es ++ b)) → Due actor token d queue files owners (a ++ es) (ended now)
     stopped-looking a es b now is looks lawful =
         let both : (a ++ es) ++ b ≡ a ++ (es ++ b) = append_assoc a es b in
         let L : List Event → Type 0 = λ l. OnlyLooks (own l) in
-        let due = subst (Due actor token d queue files owners (a ++ es)) (disk-append d a es ∙ is) (looked (a ++ es) b (subst L (sym both) looks) (subst (OthersAreLawful actor token d) (sym both) lawful)) in
+        let due = subst (Due actor token d queue files owners (a ++ es)) (disk-append d a es ∙ is)
+        (looked (a ++ es) b (subst L (sym both) looks) (subst (OthersAreLawful actor token d) (sym both) lawful)) in
         record { same_files = due.same_files; same_locks = due.same_locks; sound = due.sound }
 
-    stops-looking : (a : List Event) (e : Event) (b : List Event) (part : Part) → OnlyLooks (own (a ++ e ∷ b)) → OthersAreLawful actor token d (a ++ e ∷ b) → Due actor token d queue files owners (a ++ in_flight (disk d a) e part) (stopped (disk d a) e part)
+    stops-looking : (a : List Event) (e : Event) (b : List Event) (part : Part) → OnlyLooks (own (a ++ e ∷ b))
+        → OthersAreLawful actor token d (a ++ e ∷ b) → Due actor token d queue files owners (a ++ in_flight (disk d a) e part) (stopped (disk d a) e part)
     stops-looking a (event.Foreign f) b part looks lawful = go (is_after part)
       where
         x : Disk
@@ -163,9 +167,11 @@ module _ (actor : List ℕ) (token : ℕ) where
     moment-of queue (inr none) x y at =
         let r = front_is_run job d x y last (subst Runs at run) in
         let here = none.fronts_none x y at in
-        due-as actor token edits refusal b.time d (disk d x) queue queue files owners x s (undecided job x d queue files (settled_files actor d) 0 (λ n. sym (s.settles n)) here) (crash_safe job d x r.0 r.1)
+        due-as actor token edits refusal b.time d (disk d x) queue queue files owners x s
+        (undecided job x d queue files (settled_files actor d) 0 (λ n. sym (s.settles n)) here) (crash_safe job d x r.0 r.1)
 
-    stop-of : (queue : List (List Edit)) → MayTake queue → (x : List Event) (e : Event) (y : List Event) (part : Part) → es ≡ x ++ e ∷ y → Due actor token d queue files owners (x ++ in_flight (disk d x) e part) (stopped (disk d x) e part)
+    stop-of : (queue : List (List Edit)) → MayTake queue → (x : List Event) (e : Event) (y : List Event) (part : Part) → es ≡ x ++ e ∷ y
+        → Due actor token d queue files owners (x ++ in_flight (disk d x) e part) (stopped (disk d x) e part)
     stop-of queue (inl (more, is)) x e y part at =
         let whole = subst Runs at run in
         let l = x ++ in_flight (disk d x) e part in
@@ -179,7 +185,8 @@ module _ (actor : List ℕ) (token : ℕ) where
         let l = x ++ in_flight (disk d x) e part in
         let now = stopped (disk d x) e part in
         let here = none.stops_none x e y part at in
-        due-as actor token edits refusal b.time d now queue queue files owners l s (undecided job l d queue files (settled_files actor d) 0 (λ n. sym (s.settles n)) here) (stop_safe job d x e y last part whole)
+        due-as actor token edits refusal b.time d now queue queue files owners l s
+        (undecided job l d queue files (settled_files actor d) 0 (λ n. sym (s.settles n)) here) (stop_safe job d x e y last part whole)
 
     pub bracket-covered : (queue : List (List Edit)) → MayTake queue → Covers d queue files owners es
     bracket-covered queue may = record { moments = λ x y is. moment-of queue may x y is; stops = λ x y e part is. stop-of queue may x e y part is }

@@ -52,7 +52,8 @@ module _ (actor : List ℕ) (token : ℕ) (fits : token < 2 ^ 64) where
   act-decided (Now tz) a d es by may did = tt
   act-decided (Know texts) a d es by may did = tt
 
-  pub play-decided : {R : Type 0} (p : Play R) (d : Disk) (es : List Event) (commits : Commits) (out : Result R Stop) (more : List (List Edit)) (files : Files) (owners : Locks) → EachCommit (IsBy actor token) p → Stands actor token d files owners
+  pub play-decided : {R : Type 0} (p : Play R) (d : Disk) (es : List Event) (commits : Commits) (out : Result R Stop) (more : List (List Edit))
+      (files : Files) (owners : Locks) → EachCommit (IsBy actor token) p → Stands actor token d files owners
       → Honest d es → OthersAreLawful actor token d es → (passes : Passes p d es commits out) → AnswersAreDecided p d es commits out passes
   play-decided (Ret r) d es commits out more files owners each s honest lawful passes = tt
   play-decided (Ask act go) d es commits out more files owners each s honest lawful (inl (answer, front, rest, later, is, did, commits_is, goes)) =
@@ -64,12 +65,15 @@ module _ (actor : List ℕ) (token : ℕ) (fits : token < 2 ^ 64) where
       let q = queue_of (accepted_by act d front) ++ (queue later ++ more) in
       let now = after-piece actor token d q (queue later ++ more) files owners front (x.leaves tt) in (
         act-decided act answer d front each.0 (may-run d files owners front s here others) did,
-        play-decided (go answer) (disk d front) rest later out more (run_files actor token d q files front) (run_locks actor token d owners front) (each.1 answer) now (honest-back front rest d honest_so) (lawful-back actor token front rest d lawful_so) goes,
+        play-decided (go answer) (disk d front) rest later out more (run_files actor token d q files front) (run_locks actor token d owners front)
+            (each.1 answer) now (honest-back front rest d honest_so) (lawful-back actor token front rest d lawful_so) goes,
       )
   play-decided (Ask act go) d es commits out more files owners each s honest lawful (inr stopped) = tt
 
-  module _ {X R : Type 0} (round : X → Play (Next X R)) (Keeps : X → Type 0) (each : (x : X) → Keeps x → EachCommit (IsBy actor token) (round x)) (ends : (x : X) → Keeps x → AllEnds (NextKeeps Keeps) (round x)) where
-    pub loop-decided : {x : X} {d : Disk} {es : List Event} {commits : Commits} {out : Result R Stop} (more : List (List Edit)) (files : Files) (owners : Locks) → Keeps x → Stands actor token d files owners
+  module _ {X R : Type 0} (round : X → Play (Next X R)) (Keeps : X → Type 0) (each : (x : X) → Keeps x → EachCommit (IsBy actor token) (round x))
+      (ends : (x : X) → Keeps x → AllEnds (NextKeeps Keeps) (round x)) where
+    pub loop-decided : {x : X} {d : Disk} {es : List Event} {commits : Commits} {out : Result R Stop} (more : List (List Edit)) (files : Files)
+        (owners : Locks) → Keeps x → Stands actor token d files owners
         → Honest d es → OthersAreLawful actor token d es → (all : PassesAll round x d es commits out) → AllAnswersAreDecided all
     loop-decided {x = x} {d = d} more files owners keeps s honest lawful (again {y = y} front rest first later is commits_is goes all) =
         let honest_so = subst (Honest d) is honest in
@@ -80,13 +84,17 @@ module _ (actor : List ℕ) (token : ℕ) (fits : token < 2 ^ 64) where
         let kept : Keeps y = passes-ends actor token fits (NextKeeps Keeps) (round x) d front (record { accepted = first; pending = [] }) (Go y) (ends x keeps) goes in
         let q = queue_of first ++ (queue later ++ more) in
         let whole : queue (record { accepted = first; pending = [] }) ++ (queue later ++ more) ≡ q = ap (λ (cs : List Commit). queue_of cs ++ (queue later ++ more)) (append-nil first) in
-        let z = passed-as actor token d (queue (record { accepted = first; pending = [] }) ++ (queue later ++ more)) q (queue later ++ more) (length first) (length first) files owners front whole refl one in
+        let z = passed-as actor token d (queue (record { accepted = first; pending = [] }) ++ (queue later ++ more)) q (queue later ++ more)
+        (length first) (length first) files owners front whole refl one in
         let now = after-piece actor token d q (queue later ++ more) files owners front (z.leaves tt) in (
           play-decided (round x) d front (record { accepted = first; pending = [] }) (Ok (Go y)) (queue later ++ more) files owners (each x keeps) s here others goes,
-          loop-decided more (run_files actor token d q files front) (run_locks actor token d owners front) kept now (honest-back front rest d honest_so) (lawful-back actor token front rest d lawful_so) all,
+          loop-decided more (run_files actor token d q files front) (run_locks actor token d owners front) kept now
+              (honest-back front rest d honest_so) (lawful-back actor token front rest d lawful_so) all,
         )
-    loop-decided {x = x} {d = d} {es = es} {commits = commits} more files owners keeps s honest lawful (last {r = r} goes) = play-decided (round x) d es commits (Ok (Last r)) more files owners (each x keeps) s honest lawful goes
-    loop-decided {x = x} {d = d} {es = es} {commits = commits} more files owners keeps s honest lawful (cut {cause = cause} goes) = play-decided (round x) d es commits (Err cause) more files owners (each x keeps) s honest lawful goes
+    loop-decided {x = x} {d = d} {es = es} {commits = commits} more files owners keeps s honest lawful (last {r = r} goes) =
+        play-decided (round x) d es commits (Ok (Last r)) more files owners (each x keeps) s honest lawful goes
+    loop-decided {x = x} {d = d} {es = es} {commits = commits} more files owners keeps s honest lawful (cut {cause = cause} goes) =
+        play-decided (round x) d es commits (Err cause) more files owners (each x keeps) s honest lawful goes
 
 -- a disk that a run begins on stands as it is settled
 begins : (actor : List ℕ) (token : ℕ) (d : Disk) (es : List Event) → MayRun actor token d es → Stands actor token d (settled_files actor d) (settled_locks actor d)

@@ -144,7 +144,8 @@ module _ (actor : List ℕ) (token : ℕ) (fits : token < 2 ^ 64) where
       job-fits time c cs base d es h.end (is-job actor token time (c ∷ cs) base fits are (omega arith) few_names) may h.goes a b e at y
 
   -- where the events of a commit hold a decision, it is accepted, and this is its decision
-  once : (c : Commit) (d : Disk) (es : List Event) → decisions any d 0 es ≡ length (accepted_by (Changes c) d es) → (a b : List Event) (e : Event) → es ≡ a ++ e ∷ b → is_decision any e (disk d a) ≡ true
+  once : (c : Commit) (d : Disk) (es : List Event) → decisions any d 0 es ≡ length (accepted_by (Changes c) d es) → (a b : List Event) (e : Event)
+      → es ≡ a ++ e ∷ b → is_decision any e (disk d a) ≡ true
       → (accepted_by (Changes c) d es ≡ c ∷ []) × (decisions any d 0 a ≡ 0)
   once c d es count a b e at y = go (decided_in c d es == 0) refl
     where
@@ -170,7 +171,8 @@ module _ (actor : List ℕ) (token : ℕ) (fits : token < 2 ^ 64) where
   may-run d files owners es s honest lawful = record { fits = fits; fresh = s.fresh; sound = s.sound; honest = honest; lawful = lawful }
 
   -- what an answered or a cut commit's events carry out
-  changes-fit : (c : Commit) (d : Disk) (es : List Event) (answer : Result Unit CommitError) → first_misnamed actor c.changes ≡ None → MayRun actor token d es → decisions any d 0 es ≡ length (accepted_by (Changes c) d es)
+  changes-fit : (c : Commit) (d : Disk) (es : List Event) (answer : Result Unit CommitError) → first_misnamed actor c.changes ≡ None
+      → MayRun actor token d es → decisions any d 0 es ≡ length (accepted_by (Changes c) d es)
       → IsCommit actor token c.changes c.base (own es) answer → Fits (Changes c) d es
   changes-fit c d es answer well may count h a b e at y =
       let o = once c d es count a b e at y in
@@ -179,7 +181,8 @@ module _ (actor : List ℕ) (token : ℕ) (fits : token < 2 ^ 64) where
   undecided-fit : (act : Act) (d : Disk) (es : List Event) → decisions any d 0 es ≡ 0 → Fits act d es
   undecided-fit act d es none a b e at y = absurd (none-here es a b e d none at y)
 
-  act-fits : (act : Act) (answer : Answer act) (d : Disk) (files : Files) (owners : Locks) (es : List Event) → OfCommit (IsBy actor token) act → Stands actor token d files owners → Honest d es → OthersAreLawful actor token d es
+  act-fits : (act : Act) (answer : Answer act) (d : Disk) (files : Files) (owners : Locks) (es : List Event) → OfCommit (IsBy actor token) act
+      → Stands actor token d files owners → Honest d es → OthersAreLawful actor token d es
       → Did act answer (own es) → Fits act d es
   act-fits (Changes c) (Made answer) d files owners es by s honest lawful did =
       let x = act-answered actor token fits (Changes c) (Made answer) d files owners es [] by s honest lawful did in
@@ -188,14 +191,21 @@ module _ (actor : List ℕ) (token : ℕ) (fits : token < 2 ^ 64) where
       changes-fit c d es (answer_as answer) mine.0 (may-run d files owners es s honest lawful) x.count mine.1
   act-fits (Changes c) (Misnamed name fault) d files owners es by s honest lawful (is, none) = λ a b e at y. absurd (no-own es a b e d none at y)
   act-fits (Line i) answer d files owners es by s honest lawful did = undecided-fit (Line i) d es ((act-answered actor token fits (Line i) answer d files owners es [] by s honest lawful did).count)
-  act-fits (Say bytes) answer d files owners es by s honest lawful did = undecided-fit (Say bytes) d es ((act-answered actor token fits (Say bytes) answer d files owners es [] by s honest lawful did).count)
-  act-fits (Read name) answer d files owners es by s honest lawful did = undecided-fit (Read name) d es ((act-answered actor token fits (Read name) answer d files owners es [] by s honest lawful did).count)
-  act-fits (Try name) answer d files owners es by s honest lawful did = undecided-fit (Try name) d es ((act-answered actor token fits (Try name) answer d files owners es [] by s honest lawful did).count)
-  act-fits (Child program args input) answer d files owners es by s honest lawful did = undecided-fit (Child program args input) d es ((act-answered actor token fits (Child program args input) answer d files owners es [] by s honest lawful did).count)
-  act-fits (Editor name shell command text) answer d files owners es by s honest lawful did = undecided-fit (Editor name shell command text) d es ((act-answered actor token fits (Editor name shell command text) answer d files owners es [] by s honest lawful did).count)
+  act-fits (Say bytes) answer d files owners es by s honest lawful did =
+      undecided-fit (Say bytes) d es ((act-answered actor token fits (Say bytes) answer d files owners es [] by s honest lawful did).count)
+  act-fits (Read name) answer d files owners es by s honest lawful did =
+      undecided-fit (Read name) d es ((act-answered actor token fits (Read name) answer d files owners es [] by s honest lawful did).count)
+  act-fits (Try name) answer d files owners es by s honest lawful did =
+      undecided-fit (Try name) d es ((act-answered actor token fits (Try name) answer d files owners es [] by s honest lawful did).count)
+  act-fits (Child program args input) answer d files owners es by s honest lawful did =
+      undecided-fit (Child program args input) d es ((act-answered actor token fits (Child program args input) answer d files owners es [] by s honest lawful did).count)
+  act-fits (Editor name shell command text) answer d files owners es by s honest lawful did =
+      undecided-fit (Editor name shell command text) d es ((act-answered actor token fits (Editor name shell command text) answer d files owners es [] by s honest lawful did).count)
   act-fits (Now tz) answer d files owners es by s honest lawful did = undecided-fit (Now tz) d es ((act-answered actor token fits (Now tz) answer d files owners es [] by s honest lawful did).count)
-  act-fits (Know texts) answer d files owners es by s honest lawful did = undecided-fit (Know texts) d es ((act-answered actor token fits (Know texts) answer d files owners es [] by s honest lawful did).count)
-  act-fits (Recover o t) answer d files owners es by s honest lawful did = undecided-fit (Recover o t) d es ((act-answered actor token fits (Recover o t) answer d files owners es [] by s honest lawful did).count)
+  act-fits (Know texts) answer d files owners es by s honest lawful did =
+      undecided-fit (Know texts) d es ((act-answered actor token fits (Know texts) answer d files owners es [] by s honest lawful did).count)
+  act-fits (Recover o t) answer d files owners es by s honest lawful did =
+      undecided-fit (Recover o t) d es ((act-answered actor token fits (Recover o t) answer d files owners es [] by s honest lawful did).count)
 
   partly-fits : (c : Commit) (cause : Stop) (d : Disk) (es : List Event) → MayRun actor token d es → decisions any d 0 es ≡ length (accepted_by (Changes c) d es)
       → Partly (Changes (own_commit actor token fits c.changes c.base)) cause (own es) → Fits (Changes c) d es
@@ -212,7 +222,8 @@ module _ (actor : List ℕ) (token : ℕ) (fits : token < 2 ^ 64) where
       let P : Commit → Type 0 = λ c. Partly (Changes c) cause (own es) in
       partly-fits c cause d es may count (subst P (same-commit actor token fits c by) part)
 
-  cut-fits : (act : Act) (cause : Stop) (d : Disk) (files : Files) (owners : Locks) (es : List Event) → OfCommit (IsBy actor token) act → Stands actor token d files owners → Honest d es → OthersAreLawful actor token d es
+  cut-fits : (act : Act) (cause : Stop) (d : Disk) (files : Files) (owners : Locks) (es : List Event) → OfCommit (IsBy actor token) act
+      → Stands actor token d files owners → Honest d es → OthersAreLawful actor token d es
       → IsCutSo actor token fits act cause (own es) → Fits act d es
   cut-fits (Changes c) cause d files owners es by s honest lawful how =
       stopped-fits c cause d es by (may-run d files owners es s honest lawful) ((act-cut actor token fits (Changes c) cause d files owners es [] by s honest lawful how).count) how
@@ -220,11 +231,15 @@ module _ (actor : List ℕ) (token : ℕ) (fits : token < 2 ^ 64) where
   cut-fits (Say bytes) cause d files owners es by s honest lawful how = undecided-fit (Say bytes) d es ((act-cut actor token fits (Say bytes) cause d files owners es [] by s honest lawful how).count)
   cut-fits (Read name) cause d files owners es by s honest lawful how = undecided-fit (Read name) d es ((act-cut actor token fits (Read name) cause d files owners es [] by s honest lawful how).count)
   cut-fits (Try name) cause d files owners es by s honest lawful how = undecided-fit (Try name) d es ((act-cut actor token fits (Try name) cause d files owners es [] by s honest lawful how).count)
-  cut-fits (Child program args input) cause d files owners es by s honest lawful how = undecided-fit (Child program args input) d es ((act-cut actor token fits (Child program args input) cause d files owners es [] by s honest lawful how).count)
-  cut-fits (Editor name shell command text) cause d files owners es by s honest lawful how = undecided-fit (Editor name shell command text) d es ((act-cut actor token fits (Editor name shell command text) cause d files owners es [] by s honest lawful how).count)
+  cut-fits (Child program args input) cause d files owners es by s honest lawful how =
+      undecided-fit (Child program args input) d es ((act-cut actor token fits (Child program args input) cause d files owners es [] by s honest lawful how).count)
+  cut-fits (Editor name shell command text) cause d files owners es by s honest lawful how =
+      undecided-fit (Editor name shell command text) d es ((act-cut actor token fits (Editor name shell command text) cause d files owners es [] by s honest lawful how).count)
   cut-fits (Now tz) cause d files owners es by s honest lawful how = undecided-fit (Now tz) d es ((act-cut actor token fits (Now tz) cause d files owners es [] by s honest lawful how).count)
-  cut-fits (Know texts) cause d files owners es by s honest lawful how = undecided-fit (Know texts) d es ((act-cut actor token fits (Know texts) cause d files owners es [] by s honest lawful how).count)
-  cut-fits (Recover o t) cause d files owners es by s honest lawful how = undecided-fit (Recover o t) d es ((act-cut actor token fits (Recover o t) cause d files owners es [] by s honest lawful how).count)
+  cut-fits (Know texts) cause d files owners es by s honest lawful how =
+      undecided-fit (Know texts) d es ((act-cut actor token fits (Know texts) cause d files owners es [] by s honest lawful how).count)
+  cut-fits (Recover o t) cause d files owners es by s honest lawful how =
+      undecided-fit (Recover o t) d es ((act-cut actor token fits (Recover o t) cause d files owners es [] by s honest lawful how).count)
 
   -- ---- plays
   abbrev Fit : Disk → Commits → List Event → Event → Type 0
@@ -255,7 +270,8 @@ module _ (actor : List ℕ) (token : ℕ) (fits : token < 2 ^ 64) where
         subst (λ (w : Disk). first_refusal c.changes c.base (settled_files actor w) ≡ None) at can,
       )
 
-  play-fits : {R : Type 0} (p : Play R) (d : Disk) (es : List Event) (commits : Commits) (out : Result R Stop) (files : Files) (owners : Locks) → EachCommit (IsBy actor token) p → Stands actor token d files owners
+  play-fits : {R : Type 0} (p : Play R) (d : Disk) (es : List Event) (commits : Commits) (out : Result R Stop) (files : Files) (owners : Locks)
+      → EachCommit (IsBy actor token) p → Stands actor token d files owners
       → Honest d es → OthersAreLawful actor token d es → Passes p d es commits out → (a b : List Event) (e : Event) → es ≡ a ++ e ∷ b → is_decision any e (disk d a) ≡ true → Fit d commits a e
   play-fits (Ret r) d es commits out files owners each s honest lawful (none, is, end) a b e at y = absurd (no-own es a b e d none at y)
   play-fits (Ask act go) d es commits out files owners each s honest lawful (inl (answer, front, rest, later, is, did, commits_is, goes)) a b e at y =
@@ -310,9 +326,11 @@ module _ (actor : List ℕ) (token : ℕ) (fits : token < 2 ^ 64) where
   begins-so : (d : Disk) (es : List Event) → MayRun actor token d es → Stands actor token d (settled_files actor d) (settled_locks actor d)
   begins-so d es may = record { settles = λ n. refl; locked = λ n. refl; sound = may.sound; fresh = may.fresh }
 
-  module _ {X R : Type 0} (round : X → Play (Next X R)) (Keeps : X → Type 0) (each : (x : X) → Keeps x → EachCommit (IsBy actor token) (round x)) (ends : (x : X) → Keeps x → AllEnds (NextKeeps Keeps) (round x)) where
+  module _ {X R : Type 0} (round : X → Play (Next X R)) (Keeps : X → Type 0) (each : (x : X) → Keeps x → EachCommit (IsBy actor token) (round x))
+      (ends : (x : X) → Keeps x → AllEnds (NextKeeps Keeps) (round x)) where
     loop-fits : {x : X} {d : Disk} {es : List Event} {commits : Commits} {out : Result R Stop} (files : Files) (owners : Locks) → Keeps x → Stands actor token d files owners
-        → Honest d es → OthersAreLawful actor token d es → PassesAll round x d es commits out → (a b : List Event) (e : Event) → es ≡ a ++ e ∷ b → is_decision any e (disk d a) ≡ true → Fit d commits a e
+        → Honest d es → OthersAreLawful actor token d es → PassesAll round x d es commits out → (a b : List Event) (e : Event) → es ≡ a ++ e ∷ b
+        → is_decision any e (disk d a) ≡ true → Fit d commits a e
     loop-fits {x = x} {d = d} {commits = commits} files owners keeps s honest lawful (again {y = y} front rest first later is commits_is goes all) a b e at decides =
         let honest_so = subst (Honest d) is honest in
         let lawful_so = subst (OthersAreLawful actor token d) is lawful in
@@ -339,7 +357,8 @@ module _ (actor : List ℕ) (token : ℕ) (fits : token < 2 ^ 64) where
         play-fits (round x) d es commits (Err cause) files owners (each x keeps) s honest lawful goes a b e at decides
 
     -- rounds, with events after them that only look
-    pub run-fits : (x : X) (d : Disk) (front rest : List Event) (commits : Commits) (out : Result R Stop) → Keeps x → MayRun actor token d (front ++ rest) → PassesAll round x d front commits out → OnlyLooks (own rest)
+    pub run-fits : (x : X) (d : Disk) (front rest : List Event) (commits : Commits) (out : Result R Stop) → Keeps x
+        → MayRun actor token d (front ++ rest) → PassesAll round x d front commits out → OnlyLooks (own rest)
         → CommitsFit actor token d (front ++ rest) commits × RewritesFit actor token d (front ++ rest) commits
     run-fits x d front rest commits out keeps may all looks =
         let here = honest-front front rest d may.honest in

@@ -68,7 +68,8 @@ none-pending (Ask act go) d es commits r (inl (answer, front, rest, later, is, d
 none-pending (Ask act go) d es commits r (inr (cause, other, is, how)) = absurd (cc other)
 
 -- own events of rounds
-pub read-loop : {X R : Type 0} (round : X → Play (Next X R)) {x : X} {os : List Event} {out : Result R Stop} (d : Disk) (es : List Event) → own es ≡ os → Loop round x os out → (commits : Commits) × PassesAll round x d es commits out
+pub read-loop : {X R : Type 0} (round : X → Play (Next X R)) {x : X} {os : List Event} {out : Result R Stop} (d : Disk) (es : List Event)
+    → own es ≡ os → Loop round x os out → (commits : Commits) × PassesAll round x d es commits out
 read-loop round {x = x} d es mine (plays.again {y = y} front rest is goes more) =
     let parts = parted es front rest (mine ∙ is) in
     let xs = parts.0 in
@@ -84,7 +85,8 @@ pub traces_are_read : TracesAreRead
 traces_are_read p d es out goes = read-goes p d es (own es) out refl goes
 
 -- where no record stands what is settled is what stands
-settled-plain : (actor : List ℕ) (files : Files) (n : List ℕ) → record_in (files (record_name actor)) ≡ None → is_record_name actor n ≡ false → (if hides actor (record_in (files (record_name actor))) n then None else placed (record_in (files (record_name actor))) files n) ≡ files n
+settled-plain : (actor : List ℕ) (files : Files) (n : List ℕ) → record_in (files (record_name actor)) ≡ None → is_record_name actor n ≡ false
+    → (if hides actor (record_in (files (record_name actor))) n then None else placed (record_in (files (record_name actor))) files n) ≡ files n
 settled-plain actor files n none plain = rw (none, plain) refl
 
 module _ (actor : List ℕ) (token : ℕ) (d : Disk) (es : List Event) (may : MayRun actor token d es) where
@@ -111,7 +113,8 @@ module _ (actor : List ℕ) (token : ℕ) (d : Disk) (es : List Event) (may : Ma
 
 pub plays_are_safe : PlaysAreSafe
 plays_are_safe p actor token d es commits out each may passes =
-    safe-of actor token d es may commits out (play-passed actor token may.fits p d es commits out [] (settled_files actor d) (settled_locks actor d) each (begins actor token d es may) may.honest may.lawful passes)
+    safe-of actor token d es may commits out
+    (play-passed actor token may.fits p d es commits out [] (settled_files actor d) (settled_locks actor d) each (begins actor token d es may) may.honest may.lawful passes)
 
 -- rounds, with events after them that only look
 pub run-safe : {X R : Type 0} (round : X → Play (Next X R)) (x : X) (actor : List ℕ) (token : ℕ) (d : Disk) (front rest : List Event) (commits : Commits) (out : Result R Stop) (Keeps : X → Type 0)
@@ -125,7 +128,8 @@ run-safe round x actor token d front rest commits out Keeps each ends keeps may 
     let files_now = run_files actor token d q files front in
     let owners_now = run_locks actor token d owners front in
     let lawful = lawful-back actor token front rest d may.lawful in
-    let p = loop-passed actor token may.fits round Keeps each ends [] files owners keeps (begins actor token d (front ++ rest) may) (honest-front front rest d may.honest) (lawful_front (first_job actor token []) front rest d may.lawful) all in
+    let p = loop-passed actor token may.fits round Keeps each ends [] files owners keeps (begins actor token d (front ++ rest) may)
+    (honest-front front rest d may.honest) (lawful_front (first_job actor token []) front rest d may.lawful) all in
     let now = p.covers.moments front [] (sym (append-nil front)) in
     let count = p.count in
     let none = looks-undecided (first_job actor token []) rest (disk d front) 0 looks in
@@ -177,7 +181,8 @@ own-silent (e ∷ es) h = silent-more (is_output e) (list_any is_output (own es)
 abbrev failed : CommitError → Result Unit CommitError
 failed why = Err why
 
-done-of : (cs : List Change) (base : List (List ℕ)) (actor : List ℕ) (token : ℕ) (d : Disk) (es : List Event) → AreFiles actor cs → MayRun actor token d es → 0 < length cs → IsCommit actor token cs base (own es) (Ok tt)
+done-of : (cs : List Change) (base : List (List ℕ)) (actor : List ℕ) (token : ℕ) (d : Disk) (es : List Event) → AreFiles actor cs
+    → MayRun actor token d es → 0 < length cs → IsCommit actor token cs base (own es) (Ok tt)
     → (decisions (job_for actor token cs base) d 0 es ≡ 1) × (list_any is_output es ≡ false)
 done-of [] base actor token d es are may some h = absurd (omega (arith, some))
 done-of (c ∷ cs) base actor token d es are may some (inl (many, (none, inl other))) = absurd (cc other)
@@ -200,7 +205,8 @@ none-so error.Memory n count none how = none
 none-so (error.Disk passed) n count none (inl other) = absurd (cc other)
 none-so (error.Disk passed) n count none (inr other) = absurd (cc other)
 
-refused-of : (why : CommitError) (cs : List Change) (base : List (List ℕ)) (actor : List ℕ) (token : ℕ) (d : Disk) (es : List Event) → AreFiles actor cs → MayRun actor token d es → IsCommit actor token cs base (own es) (failed why)
+refused-of : (why : CommitError) (cs : List Change) (base : List (List ℕ)) (actor : List ℕ) (token : ℕ) (d : Disk) (es : List Event)
+    → AreFiles actor cs → MayRun actor token d es → IsCommit actor token cs base (own es) (failed why)
     → DecidedSo (failed why) (decisions (job_for actor token cs base) d 0 es)
 refused-of why [] base actor token d es are may (none, is) = absurd (cc is)
 refused-of why (c ∷ cs) base actor token d es are may (inl (many, (none, how))) =

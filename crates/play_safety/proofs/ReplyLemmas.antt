@@ -24,7 +24,8 @@ use Rattle.play_safety.proofs.TraceLemmas.{Stands-in, stands-in}
 use Rattle.play_safety.proofs.DecidedLemmas.{done_is_decided}
 
 -- where a decision was counted, there it is
-the-decision : (j : Job) (es : List Event) (d : Disk) → decisions j d 0 es ≡ 1 → (front : List Event) × (e : Event) × (rest : List Event) × (es ≡ front ++ e ∷ rest) × (is_decision j e (disk d front) ≡ true)
+the-decision : (j : Job) (es : List Event) (d : Disk) → decisions j d 0 es ≡ 1
+    → (front : List Event) × (e : Event) × (rest : List Event) × (es ≡ front ++ e ∷ rest) × (is_decision j e (disk d front) ≡ true)
 the-decision j [] d one = absurd (omega (arith, one))
 the-decision j (e ∷ es) d one = elim (cases_Bool (is_decision j e d)) [
   | inl y ↦ ([], e, es, refl, y)

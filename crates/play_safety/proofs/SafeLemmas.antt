@@ -102,7 +102,8 @@ module _ (actor : List ℕ) (token : ℕ) where
   passed-as {ended = ended} {calm = calm} d queue other left n m files owners es q k p =
       subst (λ (q : List (List Edit)). Passed ended calm d q left m files owners es) q (subst (λ (k : ℕ). Passed ended calm d queue left k files owners es) k p)
 
-  looks-passed : {ended calm : Type 0} (d : Disk) (queue : List (List Edit)) (files : Files) (owners : Locks) (es : List Event) → Stands actor token d files owners → OnlyLooks (own es) → OthersAreLawful actor token d es
+  looks-passed : {ended calm : Type 0} (d : Disk) (queue : List (List Edit)) (files : Files) (owners : Locks) (es : List Event)
+      → Stands actor token d files owners → OnlyLooks (own es) → OthersAreLawful actor token d es
       → Passed ended calm d queue queue 0 files owners es
   looks-passed d queue files owners es s looks lawful =
       let l = between actor token es d queue files owners s looks lawful in
@@ -113,7 +114,8 @@ module _ (actor : List ℕ) (token : ℕ) where
         fresh = λ c. l.fresh;
       }
 
-  passed-then : {ended calm : Type 0} (d : Disk) (queue mid left : List (List Edit)) (n m : ℕ) (files : Files) (owners : Locks) (xs ys : List Event) → Passed (Unit {0}) (Unit {0}) d queue mid n files owners xs
+  passed-then : {ended calm : Type 0} (d : Disk) (queue mid left : List (List Edit)) (n m : ℕ) (files : Files) (owners : Locks) (xs ys : List Event)
+      → Passed (Unit {0}) (Unit {0}) d queue mid n files owners xs
       → Passed ended calm (disk d xs) mid left m (run_files actor token d queue files xs) (run_locks actor token d owners xs) ys → Passed ended calm d queue left (n + m) files owners (xs ++ ys)
   passed-then d queue mid left n m files owners xs ys x y =
       let one = x.leaves tt in
@@ -269,17 +271,17 @@ module _ (actor : List ℕ) (token : ℕ) where
         }
 
     recovery-answered : (a : RecoveryAnswer) (more : List (List Edit)) → IsRecoveryOf actor token (own es) (recovery_as a) → Passed (Unit {0}) (Unit {0}) d more more 0 files owners es
-    recovery-answered (recovery.Done f) more h = recovery-passed more (jobs.Recovered (found f)) h (λ e. tt) (λ c. tt)
-    recovery-answered (recovery.Busy name) more h = recovery-passed more (Refused (jobs.Busy name)) h.1 (λ e. tt) (λ c. tt)
-    recovery-answered recovery.NotARecord more h = recovery-passed more (Refused jobs.NotARecord) h (λ e. tt) (λ c. tt)
-    recovery-answered (recovery.TooLarge name n) more h = recovery-passed more (Refused (jobs.TooLarge name n)) h.1 (λ e. tt) (λ c. tt)
+    recovery-answered (recovery.Done f) more h = recovery-passed more (jobs.Recovered (found f)) h.1 (λ e. tt) (λ c. tt)
+    recovery-answered (recovery.Busy name) more h = recovery-passed more (Refused (jobs.Busy name)) h.1.1 (λ e. tt) (λ c. tt)
+    recovery-answered recovery.NotARecord more h = recovery-passed more (Refused jobs.NotARecord) h.1 (λ e. tt) (λ c. tt)
+    recovery-answered (recovery.TooLarge name n) more h = recovery-passed more (Refused (jobs.TooLarge name n)) h.1.1 (λ e. tt) (λ c. tt)
 
     recovery-failed : (more : List (List Edit)) → IsRecoveryOf actor token (own es) (Err recover.Disk) → Passed ⊥ ⊥ d more more 0 files owners es
-    recovery-failed more h = recovery-passed more (Failed Before) h (λ never. absurd never) (λ never. absurd never)
+    recovery-failed more h = recovery-passed more (Failed Before) h.1 (λ never. absurd never) (λ never. absurd never)
 
     recovery-short : (more : List (List Edit)) → IsRecoveryOf actor token (own es) (Err recover.Memory) → Passed ⊥ (Unit {0}) d more more 0 files owners es
-    recovery-short more (inl h) = recovery-passed more NoMemory h (λ e. tt) (λ c. tt)
-    recovery-short more (inr h) = recovery-passed more (Refused jobs.NotARecord) h (λ e. tt) (λ c. tt)
+    recovery-short more (fit, inl h) = recovery-passed more NoMemory h (λ e. tt) (λ c. tt)
+    recovery-short more (fit, inr h) = recovery-passed more (Refused jobs.NotARecord) h (λ e. tt) (λ c. tt)
 
   module _ (fits : token < 2 ^ 64) where
     abbrev pub own_commit : List Change → List (List ℕ) → Commit
@@ -291,7 +293,8 @@ module _ (actor : List ℕ) (token : ℕ) where
     abbrev pub CutOff : Type 0 → Act → Disk → Files → Locks → List Event → List (List Edit) → Type 0
     CutOff calm act d files owners es more = Passed ⊥ calm d (queue (at_cut act d es) ++ more) more (length (accepted_by act d es)) files owners es
 
-    commit-answered : (cs : List Change) (base : List (List ℕ)) (d : Disk) (files : Files) (owners : Locks) (es : List Event) → AreFiles actor cs → Stands actor token d files owners → Honest d es → OthersAreLawful actor token d es
+    commit-answered : (cs : List Change) (base : List (List ℕ)) (d : Disk) (files : Files) (owners : Locks) (es : List Event) → AreFiles actor cs
+        → Stands actor token d files owners → Honest d es → OthersAreLawful actor token d es
         → (a : Committed) (more : List (List Edit)) → IsCommit actor token cs base (own es) (answer_as a) → Answered (Changes (own_commit cs base)) d files owners es more
     commit-answered [] base d files owners es are s honest lawful a more h = answered-none [] base d files owners es fits s honest lawful more h.0
     commit-answered (c ∷ cs) base d files owners es are s honest lawful a more (inl many) = answered-none (c ∷ cs) base d files owners es fits s honest lawful more many.1.0
@@ -301,7 +304,8 @@ module _ (actor : List ℕ) (token : ℕ) where
         answered-so (c ∷ cs) base d files owners es fits s honest lawful more time h.end j h.goes (end-fine a (all_of job) h.end h.is_as) (tells-faults job (own es) (answer_as a) h ∙ answer-fine a)
         (few (c ∷ cs) base d files owners es fits s honest lawful time h.end j h.goes)
 
-    commit-cut : (calm : Type 0) (cs : List Change) (base : List (List ℕ)) (d : Disk) (files : Files) (owners : Locks) (es : List Event) → AreFiles actor cs → Stands actor token d files owners → Honest d es → OthersAreLawful actor token d es
+    commit-cut : (calm : Type 0) (cs : List Change) (base : List (List ℕ)) (d : Disk) (files : Files) (owners : Locks) (es : List Event)
+        → AreFiles actor cs → Stands actor token d files owners → Honest d es → OthersAreLawful actor token d es
         → (answer : Result Unit CommitError) (more : List (List Edit)) → ((names : List (List ℕ)) (end : Ending) → AnswersAs names answer end → calm → MetNoFault end)
         → IsCommit actor token cs base (own es) answer → CutOff calm (Changes (own_commit cs base)) d files owners es more
     commit-cut calm [] base d files owners es are s honest lawful answer more fine h = cut-none [] base d files owners es fits s honest lawful more h.0
@@ -312,7 +316,8 @@ module _ (actor : List ℕ) (token : ℕ) where
         cut-so (c ∷ cs) base d files owners es fits s honest lawful more time h.end j h.goes (fine (all_of job) h.end h.is_as)
         (few (c ∷ cs) base d files owners es fits s honest lawful time h.end j h.goes)
 
-    commit-attempted : (cs : List Change) (base : List (List ℕ)) (d : Disk) (files : Files) (owners : Locks) (es : List Event) → Stands actor token d files owners → Honest d es → OthersAreLawful actor token d es
+    commit-attempted : (cs : List Change) (base : List (List ℕ)) (d : Disk) (files : Files) (owners : Locks) (es : List Event)
+        → Stands actor token d files owners → Honest d es → OthersAreLawful actor token d es
         → (a : Attempt) (more : List (List Edit)) → Did (Changes (own_commit cs base)) a (own es) → Answered (Changes (own_commit cs base)) d files owners es more
     commit-attempted cs base d files owners es s honest lawful (Made a) more (well, h) = commit-answered cs base d files owners es (named-files actor cs well) s honest lawful a more h
     commit-attempted cs base d files owners es s honest lawful (Misnamed name fault) more (is, none) = answered-none cs base d files owners es fits s honest lawful more none
@@ -322,14 +327,16 @@ module _ (actor : List ℕ) (token : ℕ) where
         ap (λ (a : List ℕ). record { actor = a; token = c.token; changes = c.changes; base = c.base }) by.actor_is
         ∙ ap (λ (t : ℕ). record { actor = actor; token = t; changes = c.changes; base = c.base }) by.token_is
 
-    pub act-answered : (act : Act) (a : Answer act) (d : Disk) (files : Files) (owners : Locks) (es : List Event) (more : List (List Edit)) → OfCommit (IsBy actor token) act → Stands actor token d files owners → Honest d es → OthersAreLawful actor token d es
+    pub act-answered : (act : Act) (a : Answer act) (d : Disk) (files : Files) (owners : Locks) (es : List Event) (more : List (List Edit))
+        → OfCommit (IsBy actor token) act → Stands actor token d files owners → Honest d es → OthersAreLawful actor token d es
         → Did act a (own es) → Answered act d files owners es more
     act-answered (Line i) a d files owners es more by s honest lawful did = looks-passed d more files owners es s (neutral-did (Line i) a (own es) refl did) lawful
     act-answered (Say bytes) a d files owners es more by s honest lawful did = looks-passed d more files owners es s (neutral-did (Say bytes) a (own es) refl did) lawful
     act-answered (Read name) a d files owners es more by s honest lawful did = looks-passed d more files owners es s (neutral-did (Read name) a (own es) refl did) lawful
     act-answered (Try name) a d files owners es more by s honest lawful did = looks-passed d more files owners es s (neutral-did (Try name) a (own es) refl did) lawful
     act-answered (Child program args input) a d files owners es more by s honest lawful did = looks-passed d more files owners es s (neutral-did (Child program args input) a (own es) refl did) lawful
-    act-answered (Editor name shell command text) a d files owners es more by s honest lawful did = looks-passed d more files owners es s (neutral-did (Editor name shell command text) a (own es) refl did) lawful
+    act-answered (Editor name shell command text) a d files owners es more by s honest lawful did =
+        looks-passed d more files owners es s (neutral-did (Editor name shell command text) a (own es) refl did) lawful
     act-answered (Now tz) a d files owners es more by s honest lawful did = looks-passed d more files owners es s (neutral-did (Now tz) a (own es) refl did) lawful
     act-answered (Know texts) a d files owners es more by s honest lawful did = looks-passed d more files owners es s (neutral-did (Know texts) a (own es) refl did) lawful
     act-answered (Changes c) a d files owners es more by s honest lawful did =
@@ -339,7 +346,8 @@ module _ (actor : List ℕ) (token : ℕ) where
         let P : List ℕ → ℕ → Type 0 = λ b t. IsRecoveryOf b t (own es) (recovery_as a) in
         recovery-answered d files owners es fits s honest lawful a more (subst (P actor) by.token_is (subst (λ (b : List ℕ). P b t) by.actor_is did))
 
-    looks-cut : (calm : Type 0) (d : Disk) (files : Files) (owners : Locks) (es : List Event) (more : List (List Edit)) → Stands actor token d files owners → OthersAreLawful actor token d es → OnlyLooks (own es)
+    looks-cut : (calm : Type 0) (d : Disk) (files : Files) (owners : Locks) (es : List Event) (more : List (List Edit))
+        → Stands actor token d files owners → OthersAreLawful actor token d es → OnlyLooks (own es)
         → Passed ⊥ calm d more more 0 files owners es
     looks-cut calm d files owners es more s lawful looks = looks-passed d more files owners es s looks lawful
 
@@ -355,7 +363,8 @@ module _ (actor : List ℕ) (token : ℕ) where
     abbrev pub calm_at : Stop → Type 0
     calm_at cause = IsCalm {R = Unit {0}} (Err cause)
 
-    commit-cut-by : (c : Commit) (cause : Stop) (d : Disk) (files : Files) (owners : Locks) (es : List Event) (more : List (List Edit)) → IsBy actor token c → Stands actor token d files owners → Honest d es → OthersAreLawful actor token d es
+    commit-cut-by : (c : Commit) (cause : Stop) (d : Disk) (files : Files) (owners : Locks) (es : List Event) (more : List (List Edit))
+        → IsBy actor token c → Stands actor token d files owners → Honest d es → OthersAreLawful actor token d es
         → Partly (Changes (own_commit c.changes c.base)) cause (own es) → CutOff (calm_at cause) (Changes (own_commit c.changes c.base)) d files owners es more
     commit-cut-by c stop.Disk d files owners es more by s honest lawful (well, (passed, h)) =
         commit-cut ⊥ c.changes c.base d files owners es (named-files actor c.changes well) s honest lawful (Err (error.Disk passed)) more (λ names end is never. absurd never) h
@@ -365,12 +374,14 @@ module _ (actor : List ℕ) (token : ℕ) where
     commit-cut-by c stop.Output d files owners es more by s honest lawful never = absurd never
     commit-cut-by c stop.TooMuch d files owners es more by s honest lawful never = absurd never
 
-    commit-stopped : (c : Commit) (cause : Stop) (d : Disk) (files : Files) (owners : Locks) (es : List Event) (more : List (List Edit)) → IsBy actor token c → Stands actor token d files owners → Honest d es → OthersAreLawful actor token d es
+    commit-stopped : (c : Commit) (cause : Stop) (d : Disk) (files : Files) (owners : Locks) (es : List Event) (more : List (List Edit))
+        → IsBy actor token c → Stands actor token d files owners → Honest d es → OthersAreLawful actor token d es
         → IsCutSo (Changes (own_commit c.changes c.base)) cause (own es) → CutOff (calm_at cause) (Changes (own_commit c.changes c.base)) d files owners es more
     commit-stopped c cause d files owners es more by s honest lawful (inl none) = cut-none c.changes c.base d files owners es fits s honest lawful more none.1
     commit-stopped c cause d files owners es more by s honest lawful (inr part) = commit-cut-by c cause d files owners es more by s honest lawful part
 
-    recovery-cut-by : (cause : Stop) (d : Disk) (files : Files) (owners : Locks) (es : List Event) (more : List (List Edit)) → Stands actor token d files owners → Honest d es → OthersAreLawful actor token d es
+    recovery-cut-by : (cause : Stop) (d : Disk) (files : Files) (owners : Locks) (es : List Event) (more : List (List Edit))
+        → Stands actor token d files owners → Honest d es → OthersAreLawful actor token d es
         → Partly (Recover actor token) cause (own es) → Passed ⊥ (calm_at cause) d more more 0 files owners es
     recovery-cut-by stop.Disk d files owners es more s honest lawful h = recovery-failed d files owners es fits s honest lawful more h
     recovery-cut-by stop.Memory d files owners es more s honest lawful h = recovery-short d files owners es fits s honest lawful more h
@@ -378,19 +389,23 @@ module _ (actor : List ℕ) (token : ℕ) where
     recovery-cut-by stop.Output d files owners es more s honest lawful never = absurd never
     recovery-cut-by stop.TooMuch d files owners es more s honest lawful never = absurd never
 
-    recovery-stopped : (cause : Stop) (d : Disk) (files : Files) (owners : Locks) (es : List Event) (more : List (List Edit)) → Stands actor token d files owners → Honest d es → OthersAreLawful actor token d es
+    recovery-stopped : (cause : Stop) (d : Disk) (files : Files) (owners : Locks) (es : List Event) (more : List (List Edit))
+        → Stands actor token d files owners → Honest d es → OthersAreLawful actor token d es
         → IsCutSo (Recover actor token) cause (own es) → Passed ⊥ (calm_at cause) d more more 0 files owners es
     recovery-stopped cause d files owners es more s honest lawful (inl none) = looks-cut (calm_at cause) d files owners es more s lawful (none-looks es none.1)
     recovery-stopped cause d files owners es more s honest lawful (inr part) = recovery-cut-by cause d files owners es more s honest lawful part
 
-    pub act-cut : (act : Act) (cause : Stop) (d : Disk) (files : Files) (owners : Locks) (es : List Event) (more : List (List Edit)) → OfCommit (IsBy actor token) act → Stands actor token d files owners → Honest d es → OthersAreLawful actor token d es
+    pub act-cut : (act : Act) (cause : Stop) (d : Disk) (files : Files) (owners : Locks) (es : List Event) (more : List (List Edit))
+        → OfCommit (IsBy actor token) act → Stands actor token d files owners → Honest d es → OthersAreLawful actor token d es
         → IsCutSo act cause (own es) → CutOff (calm_at cause) act d files owners es more
     act-cut (Line i) cause d files owners es more by s honest lawful how = looks-cut (calm_at cause) d files owners es more s lawful (cut-looks (Line i) cause (own es) refl how)
     act-cut (Say bytes) cause d files owners es more by s honest lawful how = looks-cut (calm_at cause) d files owners es more s lawful (cut-looks (Say bytes) cause (own es) refl how)
     act-cut (Read name) cause d files owners es more by s honest lawful how = looks-cut (calm_at cause) d files owners es more s lawful (cut-looks (Read name) cause (own es) refl how)
     act-cut (Try name) cause d files owners es more by s honest lawful how = looks-cut (calm_at cause) d files owners es more s lawful (cut-looks (Try name) cause (own es) refl how)
-    act-cut (Child program args input) cause d files owners es more by s honest lawful how = looks-cut (calm_at cause) d files owners es more s lawful (cut-looks (Child program args input) cause (own es) refl how)
-    act-cut (Editor name shell command text) cause d files owners es more by s honest lawful how = looks-cut (calm_at cause) d files owners es more s lawful (cut-looks (Editor name shell command text) cause (own es) refl how)
+    act-cut (Child program args input) cause d files owners es more by s honest lawful how =
+        looks-cut (calm_at cause) d files owners es more s lawful (cut-looks (Child program args input) cause (own es) refl how)
+    act-cut (Editor name shell command text) cause d files owners es more by s honest lawful how =
+        looks-cut (calm_at cause) d files owners es more s lawful (cut-looks (Editor name shell command text) cause (own es) refl how)
     act-cut (Now tz) cause d files owners es more by s honest lawful how = looks-cut (calm_at cause) d files owners es more s lawful (cut-looks (Now tz) cause (own es) refl how)
     act-cut (Know texts) cause d files owners es more by s honest lawful how = looks-cut (calm_at cause) d files owners es more s lawful (cut-looks (Know texts) cause (own es) refl how)
     act-cut (Changes c) cause d files owners es more by s honest lawful how =
@@ -420,7 +435,8 @@ module _ (actor : List ℕ) (token : ℕ) where
         → Plays out (disk d xs) later more (run_files actor token d (queue_of first ++ (queue later ++ more)) files xs) (run_locks actor token d owners xs) ys
         → Plays out d (behind first later) more files owners (xs ++ ys)
     plays-then out d first later more files owners xs ys x y =
-        passed-as d (queue_of first ++ (queue later ++ more)) (queue (behind first later) ++ more) more (length first + length later.accepted) (length (first ++ later.accepted)) files owners (xs ++ ys)
+        passed-as d (queue_of first ++ (queue later ++ more)) (queue (behind first later) ++ more) more (length first + length later.accepted)
+        (length (first ++ later.accepted)) files owners (xs ++ ys)
         (queue-behind first later more) (sym (length-append first later.accepted))
         (passed-then d (queue_of first ++ (queue later ++ more)) (queue later ++ more) more (length first) (length later.accepted) files owners xs ys x y)
 
@@ -431,17 +447,20 @@ module _ (actor : List ℕ) (token : ℕ) where
     calm-cut R stop.TooMuch c = tt
     calm-cut R stop.Memory c = tt
 
-    pub play-passed : {R : Type 0} (p : Play R) (d : Disk) (es : List Event) (commits : Commits) (out : Result R Stop) (more : List (List Edit)) (files : Files) (owners : Locks) → EachCommit (IsBy actor token) p → Stands actor token d files owners
+    pub play-passed : {R : Type 0} (p : Play R) (d : Disk) (es : List Event) (commits : Commits) (out : Result R Stop) (more : List (List Edit))
+        (files : Files) (owners : Locks) → EachCommit (IsBy actor token) p → Stands actor token d files owners
         → Honest d es → OthersAreLawful actor token d es → Passes p d es commits out → Plays out d commits more files owners es
     play-passed (Ret r) d es commits out more files owners each s honest lawful (none, is, end) =
         subst (λ (commits : Commits). Plays out d commits more files owners es) (sym is) (looks-passed d more files owners es s (none-looks es none) lawful)
     play-passed (Ask act go) d es commits out more files owners each s honest lawful (inl (answer, front, rest, later, is, did, commits_is, goes)) =
         let honest_so = subst (Honest d) is honest in
         let lawful_so = subst (OthersAreLawful actor token d) is lawful in
-        let x = act-answered act answer d files owners front (queue later ++ more) each.0 s (honest-front front rest d honest_so) (lawful_front (first_job actor token []) front rest d lawful_so) did in
+        let x = act-answered act answer d files owners front (queue later ++ more) each.0 s (honest-front front rest d honest_so)
+        (lawful_front (first_job actor token []) front rest d lawful_so) did in
         let q = queue_of (accepted_by act d front) ++ (queue later ++ more) in
         let now = after-piece actor token d q (queue later ++ more) files owners front (x.leaves tt) in
-        let y = play-passed (go answer) (disk d front) rest later out more (run_files actor token d q files front) (run_locks actor token d owners front) (each.1 answer) now (honest-back front rest d honest_so) (lawful-back actor token front rest d lawful_so) goes in
+        let y = play-passed (go answer) (disk d front) rest later out more (run_files actor token d q files front)
+        (run_locks actor token d owners front) (each.1 answer) now (honest-back front rest d honest_so) (lawful-back actor token front rest d lawful_so) goes in
         subst (λ (es : List Event). Plays out d commits more files owners es) (sym is)
         (subst (λ (commits : Commits). Plays out d commits more files owners (front ++ rest)) (sym commits_is) (plays-then out d (accepted_by act d front) later more files owners front rest x y))
     play-passed {R = R} (Ask act go) d es commits out more files owners each s honest lawful (inr (cause, is, commits_is, how)) =
@@ -457,19 +476,23 @@ module _ (actor : List ℕ) (token : ℕ) where
     passes-ends P (Ask act go) d es commits r ends (inl (answer, front, rest, later, is, did, commits_is, goes)) = passes-ends P (go answer) (disk d front) rest later r (ends answer) goes
     passes-ends P (Ask act go) d es commits r ends (inr (cause, other, is, how)) = absurd (cc other)
 
-    module _ {X R : Type 0} (round : X → Play (Next X R)) (Keeps : X → Type 0) (each : (x : X) → Keeps x → EachCommit (IsBy actor token) (round x)) (ends : (x : X) → Keeps x → AllEnds (NextKeeps Keeps) (round x)) where
-      pub loop-passed : {x : X} {d : Disk} {es : List Event} {commits : Commits} {out : Result R Stop} (more : List (List Edit)) (files : Files) (owners : Locks) → Keeps x → Stands actor token d files owners
+    module _ {X R : Type 0} (round : X → Play (Next X R)) (Keeps : X → Type 0) (each : (x : X) → Keeps x → EachCommit (IsBy actor token) (round x))
+        (ends : (x : X) → Keeps x → AllEnds (NextKeeps Keeps) (round x)) where
+      pub loop-passed : {x : X} {d : Disk} {es : List Event} {commits : Commits} {out : Result R Stop} (more : List (List Edit)) (files : Files)
+          (owners : Locks) → Keeps x → Stands actor token d files owners
           → Honest d es → OthersAreLawful actor token d es → PassesAll round x d es commits out → Plays out d commits more files owners es
       loop-passed {x = x} {d = d} {es = es} {commits = commits} {out = out} more files owners keeps s honest lawful (again {y = y} front rest first later is commits_is goes all) =
           let honest_so = subst (Honest d) is honest in
           let lawful_so = subst (OthersAreLawful actor token d) is lawful in
-          let one = play-passed (round x) d front (record { accepted = first; pending = [] }) (Ok (Go y)) (queue later ++ more) files owners (each x keeps) s (honest-front front rest d honest_so) (lawful_front (first_job actor token []) front rest d lawful_so) goes in
+          let one = play-passed (round x) d front (record { accepted = first; pending = [] }) (Ok (Go y)) (queue later ++ more) files owners
+          (each x keeps) s (honest-front front rest d honest_so) (lawful_front (first_job actor token []) front rest d lawful_so) goes in
           let kept : Keeps y = passes-ends (NextKeeps Keeps) (round x) d front (record { accepted = first; pending = [] }) (Go y) (ends x keeps) goes in
           let q = queue_of first ++ (queue later ++ more) in
           let whole : queue (record { accepted = first; pending = [] }) ++ (queue later ++ more) ≡ q = ap (λ (cs : List Commit). queue_of cs ++ (queue later ++ more)) (append-nil first) in
           let z = passed-as d (queue (record { accepted = first; pending = [] }) ++ (queue later ++ more)) q (queue later ++ more) (length first) (length first) files owners front whole refl one in
           let now = after-piece actor token d q (queue later ++ more) files owners front (z.leaves tt) in
-          let rest_of = loop-passed more (run_files actor token d q files front) (run_locks actor token d owners front) kept now (honest-back front rest d honest_so) (lawful-back actor token front rest d lawful_so) all in
+          let rest_of = loop-passed more (run_files actor token d q files front) (run_locks actor token d owners front) kept now
+          (honest-back front rest d honest_so) (lawful-back actor token front rest d lawful_so) all in
           subst (λ (es : List Event). Plays out d commits more files owners es) (sym is)
           (subst (λ (commits : Commits). Plays out d commits more files owners (front ++ rest)) (sym commits_is) (plays-then out d first later more files owners front rest z rest_of))
       loop-passed {x = x} {d = d} {es = es} {commits = commits} more files owners keeps s honest lawful (last {r = r} goes) =

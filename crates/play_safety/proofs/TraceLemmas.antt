@@ -87,7 +87,8 @@ decisions-split j (x ∷ xs) ys d n = decisions-split j xs ys (after d x) (if is
 pub decisions-from : (j : Job) (es : List Event) (d : Disk) (n : ℕ) → decisions j d n es ≡ n + decisions j d 0 es
 decisions-from j [] d n = omega arith
 decisions-from j (e ∷ es) d n = elim (cases_Bool (is_decision j e d)) [
-  | inl y ↦ (let a = counted-yes j e es d n y in let b = counted-yes j e es d 0 y in let x = decisions-from j es (after d e) (suc n) in let z = decisions-from j es (after d e) 1 in omega (arith, a, b, x, z))
+  | inl y ↦ (let a = counted-yes j e es d n y in let b = counted-yes j e es d 0 y in let x = decisions-from j es (after d e) (suc n) in let z =
+      decisions-from j es (after d e) 1 in omega (arith, a, b, x, z))
   | inr nay ↦ (let a = counted-no j e es d n nay in let b = counted-no j e es d 0 nay in let x = decisions-from j es (after d e) n in omega (arith, a, b, x))
 ]
 

@@ -36,7 +36,8 @@ texts-append passes rules ms m =
     ∙ ap (λ (l : List (List ℕ)). texts_where passes rules ms ++ l) (one-text (test m) m)
 
 -- the message at a place
-pub message-at : (texts : List (List ℕ)) (marks : List Mark) (k : ℕ) (t : List ℕ) (m : Mark) → slice_get texts k ≡ Some t → k < length marks → get_or marks k m ≡ m → get_or (zip texts marks) k (t, m) ≡ (t, m)
+pub message-at : (texts : List (List ℕ)) (marks : List Mark) (k : ℕ) (t : List ℕ) (m : Mark) → slice_get texts k ≡ Some t → k < length marks
+    → get_or marks k m ≡ m → get_or (zip texts marks) k (t, m) ≡ (t, m)
 message-at texts marks k t m text within mark =
     get_or-zip texts marks k (t, m) (slice_get_within texts k t text) within
     ∙ ap (λ (x : List ℕ). (x, get_or marks k m)) (get_or_from_slice_get texts k t t text) ∙ ap (λ (x : Mark). (t, x)) mark
@@ -171,7 +172,8 @@ count-texts passes rules (t ∷ texts) (m ∷ marks) same = go (passes (fate_of 
   where
     go : (b : Bool) → count_where passes rules marks ≡ length (texts_where passes rules (zip texts marks))
         → length (if b then m ∷ filter (λ (n : Mark). passes (fate_of rules n.state)) marks else filter (λ (n : Mark). passes (fate_of rules n.state)) marks)
-        ≡ length (map stamped_text (if b then (t, m) ∷ filter (λ (n : Message). passes (fate_of rules n.1.state)) (zip texts marks) else filter (λ (n : Message). passes (fate_of rules n.1.state)) (zip texts marks)))
+        ≡ length (map stamped_text (if b then (t, m)
+        ∷ filter (λ (n : Message). passes (fate_of rules n.1.state)) (zip texts marks) else filter (λ (n : Message). passes (fate_of rules n.1.state)) (zip texts marks)))
     go true rest = ap suc rest
     go false rest = rest
 

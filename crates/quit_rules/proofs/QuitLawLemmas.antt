@@ -86,7 +86,8 @@ not-second a false c h is = absurd (false≢true is)
 cons-there : {X : Type 0} (x y : X) (xs : List X) → Contains xs y → Contains (x ∷ xs) y
 cons-there x y xs at = (suc at.0, (let within = at.1 in omega arith), at.2)
 
-texts-there : (passes : Fate → Bool) (rules : Rules) (ms : List Message) (m : Message) → (k : ℕ) → k < length ms → get_or ms k m ≡ m → passes (fate_of rules m.1.state) ≡ true → Contains (texts_where passes rules ms) (stamped_text m)
+texts-there : (passes : Fate → Bool) (rules : Rules) (ms : List Message) (m : Message) → (k : ℕ) → k < length ms → get_or ms k m ≡ m
+    → passes (fate_of rules m.1.state) ≡ true → Contains (texts_where passes rules ms) (stamped_text m)
 texts-there passes rules [] m k within is pass = absurd (omega arith)
 texts-there passes rules (n ∷ ms) m zero within is pass =
     let first : passes (fate_of rules n.1.state) ≡ true = ap (λ (x : Message). passes (fate_of rules x.1.state)) is ∙ pass in
@@ -117,7 +118,8 @@ record IsFrom (passes : Fate → Bool) (rules : Rules) (ms : List Message) (text
 from-later : (passes : Fate → Bool) (rules : Rules) (n : Message) (ms : List Message) (text : List ℕ) → IsFrom passes rules ms text → IsFrom passes rules (n ∷ ms) text
 from-later passes rules n ms text from = record { message = from.message; there = cons-there n from.message ms from.there; pass = from.pass; stamped = from.stamped }
 
-texts-from : (passes : Fate → Bool) (rules : Rules) (ms : List Message) (text : List ℕ) → (k : ℕ) → k < length (texts_where passes rules ms) → get_or (texts_where passes rules ms) k text ≡ text → IsFrom passes rules ms text
+texts-from : (passes : Fate → Bool) (rules : Rules) (ms : List Message) (text : List ℕ) → (k : ℕ) → k < length (texts_where passes rules ms)
+    → get_or (texts_where passes rules ms) k text ≡ text → IsFrom passes rules ms text
 texts-from passes rules [] text k within is = absurd (omega arith)
 texts-from passes rules (n ∷ ms) text k within is = go (passes (fate_of rules n.1.state)) refl (texts-from passes rules ms text) k within is
   where
@@ -145,10 +147,12 @@ kept-length : {X : Type 0} (b : Bool) (x : X) (xs : List X) → length (if b the
 kept-length true x xs = omega arith
 kept-length false x xs = omega arith
 
-texts-length : (passes : Fate → Bool) (rules : Rules) (m : Message) (ms : List Message) → length (texts_where passes rules (m ∷ ms)) ≡ one (passes (fate_of rules m.1.state)) + length (texts_where passes rules ms)
+texts-length : (passes : Fate → Bool) (rules : Rules) (m : Message) (ms : List Message)
+    → length (texts_where passes rules (m ∷ ms)) ≡ one (passes (fate_of rules m.1.state)) + length (texts_where passes rules ms)
 texts-length passes rules m ms = go (passes (fate_of rules m.1.state))
   where
-    go : (b : Bool) → length (map stamped_text (if b then m ∷ filter (λ (x : Message). passes (fate_of rules x.1.state)) ms else filter (λ (x : Message). passes (fate_of rules x.1.state)) ms)) ≡ one b + length (texts_where passes rules ms)
+    go : (b : Bool) → length (map stamped_text
+        (if b then m ∷ filter (λ (x : Message). passes (fate_of rules x.1.state)) ms else filter (λ (x : Message). passes (fate_of rules x.1.state)) ms)) ≡ one b + length (texts_where passes rules ms)
     go true = omega arith
     go false = omega arith
 

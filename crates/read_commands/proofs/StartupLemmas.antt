@@ -24,12 +24,12 @@ use Rattle.command_desk.specs.Answers.{OrFault, next, unless, quietly}
 use Rattle.command_desk.specs.Effects.{renames, unchanged}
 use Rattle.command_desk.specs.Faults.{bad_arguments, not_in_startup, too_many_aliases}
 use Rattle.command_desk.specs.FileNames.{expanded}
-use Rattle.setting_commands.specs.Setting.{set, unset, sets, first_refusal, setting_of}
-use Rattle.setting_commands.specs.Sourcing.{source, bringing}
-use Rattle.setting_commands.specs.Conditions.{condition, opening, turning_alone, turns_or_fault}
-use Rattle.naming_commands.specs.Naming.{alias, unalias, alternates, ignore, retain}
-use Rattle.macro_commands.specs.Defining.{define, undef, definition_line, or_macro_fault}
-use Rattle.macro_commands.specs.Calling.{call, calling_or_fault}
+use Rattle.desk_commands.specs.Setting.{set, unset, sets, first_refusal, setting_of}
+use Rattle.desk_commands.specs.Sourcing.{source, bringing}
+use Rattle.desk_commands.specs.Conditions.{condition, opening, turning_alone, turns_or_fault}
+use Rattle.desk_commands.specs.Naming.{alias, unalias, alternates, ignore, retain}
+use Rattle.desk_commands.specs.Defining.{define, undef, definition_line, or_macro_fault}
+use Rattle.desk_commands.specs.Calling.{call, calling_or_fault}
 use Rattle.read_commands.specs.declared.origin.Origin.{Origin}
 use Rattle.read_commands.specs.declared.origin.Origin.TheVariants.{Startup}
 use Rattle.read_commands.specs.Commands.{meaning, meaning_of, name_of, has_words_too_many, read_or_fault}
@@ -87,7 +87,8 @@ condition-little desk name words =
 alias-little : (desk : Desk) (words : List (List ℕ)) → AsksLittle (alias desk words)
 alias-little desk [] = refl
 alias-little desk (name ∷ []) = refl
-alias-little desk (name ∷ member ∷ members) = either-little (is_some (define_refusal desk.aliases (member ∷ members))) (Err too_many_aliases) (quietly (renames (naming.Alias name (member ∷ members)))) tt refl
+alias-little desk (name ∷ member ∷ members) =
+    either-little (is_some (define_refusal desk.aliases (member ∷ members))) (Err too_many_aliases) (quietly (renames (naming.Alias name (member ∷ members)))) tt refl
 
 unalias-little : (desk : Desk) (words : List (List ℕ)) → AsksLittle (unalias desk words)
 unalias-little desk [] = tt

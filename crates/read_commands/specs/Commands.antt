@@ -21,15 +21,15 @@ use Rattle.command_desk.specs.Effects.{gathers, unchanged}
 use Rattle.command_desk.specs.Faults.{bad_arguments, unknown_command, open_quote, line_too_long}
 use Rattle.show_commands.specs.Printing.{print, top, print_following}
 use Rattle.show_commands.specs.Paging.{headers, scroll}
-use Rattle.mark_commands.specs.Deleting.{delete, delete_and_print, undelete}
-use Rattle.mark_commands.specs.Flagging.{flagging}
-use Rattle.mark_commands.specs.Leaving.{hold, mbox, touch}
-use Rattle.setting_commands.specs.Setting.{set, unset}
-use Rattle.setting_commands.specs.Conditions.{condition}
-use Rattle.setting_commands.specs.Sourcing.{source}
-use Rattle.naming_commands.specs.Naming.{alias, unalias, alternates, ignore, retain}
-use Rattle.macro_commands.specs.Defining.{define, undef}
-use Rattle.macro_commands.specs.Calling.{call, defines}
+use Rattle.desk_commands.specs.Deleting.{delete, delete_and_print, undelete}
+use Rattle.desk_commands.specs.Flagging.{flagging}
+use Rattle.desk_commands.specs.Leaving.{hold, mbox, touch}
+use Rattle.desk_commands.specs.Setting.{set, unset}
+use Rattle.desk_commands.specs.Conditions.{condition}
+use Rattle.desk_commands.specs.Sourcing.{source}
+use Rattle.desk_commands.specs.Naming.{alias, unalias, alternates, ignore, retain}
+use Rattle.desk_commands.specs.Defining.{define, undef}
+use Rattle.desk_commands.specs.Calling.{call, defines}
 use Rattle.folder_commands.specs.declared.wanted.Filing.{Filing}
 use Rattle.folder_commands.specs.Saving.{copy, copy_by_author, save, save_by_author, write}
 use Rattle.folder_commands.specs.Leaving.{quit}
@@ -42,7 +42,7 @@ use Rattle.child_commands.specs.Listing.{folders}
 use Rattle.child_commands.specs.Editing.{edit, visual}
 use Rattle.draft_commands.specs.Replying.{followup, followup_authors, reply, reply_authors}
 use Rattle.show_commands.specs.Telling.{from, size, number, echo, help}
-use Rattle.view_commands.specs.Viewing.{sort, thread}
+use Rattle.desk_commands.specs.Viewing.{sort, thread}
 
 -- the whole name of the command that a word spells; a line without a word is one of `print`
 abbrev pub name_of : List ℕ → List ℕ

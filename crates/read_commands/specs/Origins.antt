@@ -17,7 +17,7 @@ use Rattle.command_desk.specs.declared.steps.Steps.{Steps}
 use Rattle.command_desk.specs.Answers.{OrFault, next, unless, quietly}
 use Rattle.command_desk.specs.Effects.{unchanged}
 use Rattle.command_desk.specs.Faults.{not_in_startup, not_composing}
-use Rattle.macro_commands.specs.Defining.{definition_line}
+use Rattle.desk_commands.specs.Defining.{definition_line}
 use Rattle.read_commands.specs.declared.origin.Origin.{Origin}
 use Rattle.read_commands.specs.declared.origin.Origin.TheVariants as origin
 use Rattle.read_commands.specs.Commands.{name_of, meaning, read_or_fault}

@@ -10,21 +10,20 @@ ghost use Rattle.read_commands.specs.Commands.{name_of, exit, filed, gathering, 
 
 use child_commands::{edit, folders, pipe, shell, visual};
 use command_desk::{Ask, Desk, Refusal, Steps, fault, gathers, quietly, unchanged};
+use desk_commands::{
+    alias, alternates, call, condition, define, defines, delete, delete_and_print, flagging, hold,
+    ignore, mbox, retain, set, sort, source, thread, touch, unalias, undef, undelete, unset,
+};
 use draft_commands::{followup, followup_authors, mail, reply, reply_authors};
 use folder_commands::{
     Filing, copy, copy_by_author, file, newmail, quit, save, save_by_author, write,
 };
 use line_words::{Command, CommandLine, LineError, read_line, whole_name};
-use macro_commands::{call, define, defines, undef};
 use mail_text::{Items, Memory, Text};
-use mark_commands::{delete, delete_and_print, flagging, hold, mbox, touch, undelete};
 use message_show::How;
 use message_state::Act;
-use naming_commands::{alias, alternates, ignore, retain, unalias};
-use setting_commands::{condition, set, source, unset};
 use show_commands::{echo, from, headers, help, number, print, print_following, scroll, size, top};
 use std::alloc::Global;
-use view_commands::{sort, thread};
 
 // The whole name of the command that a word spells. A line without a word is one of `print`.
 pub(crate) fn name_of(word: &[u8]) -> &'static [u8]

@@ -4,15 +4,15 @@ ghost use Rattle.command_desk.specs.Answers.{Means, IsRefusedBy, next};
 ghost use Rattle.command_desk.specs.declared.desk.Desk.{Desk};
 ghost use Rattle.command_desk.specs.Desks.{IsDesk};
 ghost use Rattle.command_desk.specs.Effects.{effect};
-ghost use Rattle.macro_commands.specs.Defining.{definition_line};
+ghost use Rattle.desk_commands.specs.Defining.{definition_line};
 ghost use Rattle.read_commands.specs.declared.origin.Origin.{Origin};
 ghost use Rattle.read_commands.specs.Commands.{meaning};
 ghost use Rattle.read_commands.specs.Origins.{is_of_startup, leaves_draft, line_of_origin, read_from, is_defining, turns_lines, passes_over, commanded, commanded_outside, AsksLittle};
 
 use crate::dispatch::{command_line, name_of, perform};
 use command_desk::{Desk, Refusal, Steps, fault, quietly, unchanged};
+use desk_commands::definition_line;
 use line_words::{Command, CommandLine, command_in};
-use macro_commands::definition_line;
 use std::alloc::Global;
 
 /// Where a line comes from.

@@ -16,7 +16,8 @@ struct Trial {
 }
 
 // An editor may write into the file, leave it, empty it, put another file in its place, and fail.
-const TRIALS: [Trial; 5] = [
+// No variable of its environment tells it the name.
+const TRIALS: [Trial; 7] = [
     Trial {
         command: "printf x >>",
         status: 0,
@@ -41,6 +42,16 @@ const TRIALS: [Trial; 5] = [
         command: "stat -c %a",
         status: 0,
         left: "to be edited\n",
+    },
+    Trial {
+        command: "test -z \"${MAILX_TEXT+set}\" -a -n",
+        status: 0,
+        left: "to be edited\n",
+    },
+    Trial {
+        command: "printf %s \"$0\" >",
+        status: 0,
+        left: "edit $(x) 'y",
     },
 ];
 

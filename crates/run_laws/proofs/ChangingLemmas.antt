@@ -1,25 +1,26 @@
 -- What commits, one after another, make of files, and what is due after a run's events.
-use Rattle.std.proofs.Common.{◌≡◌, ℕ, zero, suc, Bool, true, false, List, [], ◌∷◌, ◌++◌, length, if◌then◌else◌, refl, ap, sym, inl, inr, ◌∙◌, arith}
+use Rattle.std.proofs.Common.{◌≡◌, ℕ, zero, suc, Bool, true, false, List, [], ◌∷◌, ◌++◌, Option, Some, None, length, if◌then◌else◌, refl, ap, sym, inl, inr, ◌∙◌, arith}
 use Rattle.std.specs.Prelude.{take}
 use Rattle.std.proofs.lemmas.Bool.{cases_Bool}
 use Rattle.host_port.specs.declared.event.Event.{Event}
 use Rattle.host_port.specs.declared.event.Event.TheVariants as event
-use Rattle.host_port.specs.Disk.{Disk, after_step, disk}
+use Rattle.host_port.specs.Disk.{Disk, after_step}
 use Rattle.host_port.specs.Disk as host
 use Rattle.folder_change.specs.Apply.{apply}
 use Rattle.folder_change.proofs.ApplyLemmas.{apply-alone}
 use Rattle.commit_machine.specs.Settled.{Files}
 use Rattle.commit_machine.specs.Jobs.{Edit, Job, edits_of}
-use Rattle.commit_machine.specs.Due.{settled_files, applied, is_decision, files_then}
+use Rattle.commit_machine.specs.Due.{settled_files, applied, is_decision, same_file, renewed, files_then}
 use Rattle.commit_machine.specs.Laws.{decisions}
 use Rattle.commit_machine.specs.Rows.{first_job, run_files}
 use Rattle.commit_machine.proofs.records.Edits.{edits_are_changes}
+use Rattle.commit_machine.proofs.records.Same.{same_refl}
 use Rattle.commit_machine.proofs.runs.OneJob.{decides-same, counted-yes, counted-no, queue-stays, queue-goes}
 use Rattle.session_play.specs.Committing.{Commit}
 use Rattle.play_safety.specs.Safe.{queue_of}
+use Rattle.play_safety.proofs.AppendedLemmas.{left-due}
 use Rattle.play_safety.proofs.TraceLemmas.{decisions-from}
 use Rattle.run_laws.specs.Changing.{made_by, OthersLeave, CommitsAddUp}
-use Rattle.run_laws.proofs.DecisionLemmas.{renewed_same, left_due}
 
 -- what commits make of a file depends on no other file
 pub made_alone : (cs : List Commit) (f g : Files) (n : List ℕ) → f n ≡ g n → made_by cs f n ≡ made_by cs g n
@@ -40,6 +41,15 @@ none_taken (suc k) = refl
 pub all_taken : (cs more : List Commit) → take (length cs) (cs ++ more) ≡ cs
 all_taken [] more = refl
 all_taken (c ∷ cs) more = ap (λ (l : List Commit). c ∷ l) (all_taken cs more)
+
+-- a step of others that leaves a file as it was
+same_itself : (a : Option (List ℕ)) → same_file a a ≡ true
+same_itself None = refl
+same_itself (Some a) = same_refl a
+
+renewed_same : (old new value : Option (List ℕ)) → new ≡ old → renewed same_file old new value ≡ value
+renewed_same old new value is =
+    ap (λ (w : Option (List ℕ)). renewed same_file old w value) is ∙ ap (λ (b : Bool). if b then value else old) (same_itself old)
 
 module _ (actor : List ℕ) (token : ℕ) where
   abbrev any : Job
@@ -96,10 +106,10 @@ module _ (actor : List ℕ) (token : ℕ) where
       let now = files_then (first_job actor token (queue_of cs)) (event.Foreign step) d files in
       run_made es (after_step d step) cs now n leave.1
       ∙ made_alone (take (decisions any (after_step d step) 0 es) cs) now files n
-      (renewed_same actor token (settled_files actor d n) (settled_files actor (after_step d step) n) (files n) leave.0)
+      (renewed_same (settled_files actor d n) (settled_files actor (after_step d step) n) (files n) leave.0)
   run_made (e ∷ es) d cs files n leave = each e es d files n (λ j. refl) (λ cs now. run_made es (host.after d e) cs now n leave) cs
 
 pub commits_add_up : CommitsAddUp
 commits_add_up actor token d now es seen commits out n safe left leave =
-    (left_due actor token d es commits out seen now safe left).same_files n
+    (left-due actor token d es commits out seen now safe left).same_files n
     ∙ run_made actor token seen d (commits.accepted ++ commits.pending) (settled_files actor d) n leave

@@ -16,7 +16,7 @@ use Rattle.commit_machine.specs.Refusals.{first_refusal}
 use Rattle.commit_machine.specs.Settled.{Files, Locks}
 use Rattle.commit_machine.specs.Jobs.{Before, Refusal, Ending, Refused, Failed, NoMemory, Edit, Job, IsJob}
 use Rattle.commit_machine.specs.Jobs as jobs
-use Rattle.commit_machine.specs.Machine.{State, Seizing, Ended, after_reply}
+use Rattle.commit_machine.specs.Machine.{State, Seizing, Ended}
 use Rattle.commit_machine.specs.Goes as machine
 use Rattle.commit_machine.specs.Edits.{edits_for, cause_of, timed_for, job_for, recovery_for}
 use Rattle.commit_machine.specs.Due.{settled_files, settled_locks}
@@ -24,7 +24,7 @@ use Rattle.commit_machine.specs.Lawful.{OthersAreLawful}
 use Rattle.commit_machine.specs.Laws.{IsRun, IsSettledAs, decisions}
 use Rattle.commit_machine.specs.Restraints.{is_failed}
 use Rattle.commit_machine.specs.Rows.{first_job, queue_after, IsBracket, run_files, run_locks}
-use Rattle.commit_machine.proofs.runs.Ends.{lawful_front}
+use Rattle.commit_machine.proofs.runs.Ends.{lawful_front, goes_front}
 use Rattle.commit_machine.proofs.runs.OneJob.{Stands, after-piece, honest-back, looks-front}
 use Rattle.folder_recovery.specs.Recovering.{found}
 use Rattle.folder_recovery.proofs.SafeLemmas.{recovery-is-job}
@@ -56,14 +56,6 @@ use Rattle.play_safety.proofs.CoverLemmas.{Covers, looks-covered, covers-then, b
 use Rattle.play_safety.proofs.SafeLemmas.{honest-front, lawful-back, same-commit, own_commit, act-answered, play-passed, passed-as, passes-ends, IsCutSo}
 use Rattle.run_laws.specs.Fronts.{IsSafeUpTo, MayRunUpTo, PromisesStand}
 use Rattle.run_laws.proofs.BracketLemmas.{none_looks}
-
--- the machine, up to a front of its events
-goes_front : (j : Job) (before rest : List Event) (s final : State) → machine.Goes j s (own (before ++ rest)) final → (mid : State) × machine.Goes j s (own before) mid
-goes_front j [] rest s final goes = (s, inl refl)
-goes_front j (event.Foreign f ∷ es) rest s final goes = goes_front j es rest s final goes
-goes_front j (x ∷ es) rest s final goes =
-    let more = goes_front j es rest (after_reply j goes.0 (machine.reply x)) final goes.3 in
-    (more.0, (goes.0, goes.1, goes.2, more.1))
 
 fine_front : (a b : List Event) → list_any is_failed (own (a ++ b)) ≡ false → list_any is_failed (own a) ≡ false
 fine_front [] b fine = refl
@@ -161,15 +153,15 @@ module _ (actor : List ℕ) (token : ℕ) (fits : token < 2 ^ 64) where
         bracket-covered actor token None no_refusal d files owners s a f.0 b queue (inr (never-undecided actor token None no_refusal d files owners s a f.0 b never))
 
     recovery_done : (queue : List (List Edit)) (answer : RecoveryAnswer) → IsRecoveryOf actor token (own (a ++ b)) (recovery_as answer) → Covered queue
-    recovery_done queue (recovery.Done f) h = recovers queue (jobs.Recovered (found f)) h
-    recovery_done queue (recovery.Busy name) h = recovers queue (Refused (jobs.Busy name)) h.1
-    recovery_done queue recovery.NotARecord h = recovers queue (Refused jobs.NotARecord) h
-    recovery_done queue (recovery.TooLarge name n) h = recovers queue (Refused (jobs.TooLarge name n)) h.1
+    recovery_done queue (recovery.Done f) h = recovers queue (jobs.Recovered (found f)) h.1
+    recovery_done queue (recovery.Busy name) h = recovers queue (Refused (jobs.Busy name)) h.1.1
+    recovery_done queue recovery.NotARecord h = recovers queue (Refused jobs.NotARecord) h.1
+    recovery_done queue (recovery.TooLarge name n) h = recovers queue (Refused (jobs.TooLarge name n)) h.1.1
 
     recovery_part : (queue : List (List Edit)) (cause : Stop) → Partly (Recover actor token) cause (own (a ++ b)) → Covered queue
-    recovery_part queue stop.Disk h = recovers queue (Failed Before) h
-    recovery_part queue stop.Memory (inl h) = recovers queue NoMemory h
-    recovery_part queue stop.Memory (inr h) = recovers queue (Refused jobs.NotARecord) h
+    recovery_part queue stop.Disk h = recovers queue (Failed Before) h.1
+    recovery_part queue stop.Memory (fit, inl h) = recovers queue NoMemory h
+    recovery_part queue stop.Memory (fit, inr h) = recovers queue (Refused jobs.NotARecord) h
     recovery_part queue stop.Input never = absurd never
     recovery_part queue stop.Output never = absurd never
     recovery_part queue stop.TooMuch never = absurd never
@@ -197,7 +189,8 @@ module _ (actor : List ℕ) (token : ℕ) (fits : token < 2 ^ 64) where
         let P : Commit → Type 0 = λ c. Did (Changes c) answer (own (a ++ b)) → Covered (queue_of (accepted_by (Changes c) d (a ++ b)) ++ more) in
         subst P (sym (same-commit actor token fits c by)) (λ h. attempted c.changes c.base answer more h) did
     act_front (Recover n t) answer more by did =
-        recovery_done more answer (subst (λ (t : ℕ). IsRecoveryOf actor t (own (a ++ b)) (recovery_as answer)) by.token_is (subst (λ (n : List ℕ). IsRecoveryOf n t (own (a ++ b)) (recovery_as answer)) by.actor_is did))
+        recovery_done more answer (subst (λ (t : ℕ). IsRecoveryOf actor t (own (a ++ b)) (recovery_as answer)) by.token_is
+        (subst (λ (n : List ℕ). IsRecoveryOf n t (own (a ++ b)) (recovery_as answer)) by.actor_is did))
     act_front (Line i) answer more by did = looking more (neutral-did (Line i) answer (own (a ++ b)) refl did)
     act_front (Say bytes) answer more by did = looking more (neutral-did (Say bytes) answer (own (a ++ b)) refl did)
     act_front (Read name) answer more by did = looking more (neutral-did (Read name) answer (own (a ++ b)) refl did)
@@ -212,11 +205,14 @@ module _ (actor : List ℕ) (token : ℕ) (fits : token < 2 ^ 64) where
     neutral_cut act cause queue neutral (inr part) = looking queue (neutral-part act cause (own (a ++ b)) neutral part)
 
     -- and what one that was cut off has
-    act_cut : (act : Act) (cause : Stop) (more : List (List Edit)) → OfCommit (IsBy actor token) act → IsCutSo actor token fits act cause (own (a ++ b)) → Covered (queue (at_cut act d (a ++ b)) ++ more)
+    act_cut : (act : Act) (cause : Stop) (more : List (List Edit)) → OfCommit (IsBy actor token) act
+        → IsCutSo actor token fits act cause (own (a ++ b)) → Covered (queue (at_cut act d (a ++ b)) ++ more)
     act_cut (Changes c) cause more by how =
         let P : Commit → Type 0 = λ c. IsCutSo actor token fits (Changes c) cause (own (a ++ b)) → Covered (queue (at_cut (Changes c) d (a ++ b)) ++ more) in
         subst P (sym (same-commit actor token fits c by)) (λ h. commit_stopped c.changes c.base cause more h) how
-    act_cut (Recover n t) cause more by how = recovery_cut (subst (λ (t : ℕ). IsCutSo actor token fits (Recover actor t) cause (own (a ++ b))) by.token_is (subst (λ (n : List ℕ). IsCutSo actor token fits (Recover n t) cause (own (a ++ b))) by.actor_is how))
+    act_cut (Recover n t) cause more by how =
+        recovery_cut (subst (λ (t : ℕ). IsCutSo actor token fits (Recover actor t) cause (own (a ++ b))) by.token_is
+        (subst (λ (n : List ℕ). IsCutSo actor token fits (Recover n t) cause (own (a ++ b))) by.actor_is how))
       where
         recovery_cut : IsCutSo actor token fits (Recover actor token) cause (own (a ++ b)) → Covered more
         recovery_cut (inl none) = none_done more none.1
@@ -273,15 +269,19 @@ module _ (actor : List ℕ) (token : ℕ) (fits : token < 2 ^ 64) where
       pick more_of (inr (c, same, back)) =
           let q = queue_of (accepted_by act d front) ++ left in
           let lawful_both = subst (OthersAreLawful actor token d) same lawful in
-          let x = act-answered actor token fits act answer d files owners front left each.0 s (honest-front front rest d honest_so) (lawful_front (first_job actor token []) front c d lawful_both) did in
+          let x = act-answered actor token fits act answer d files owners front left each.0 s (honest-front front rest d honest_so)
+          (lawful_front (first_job actor token []) front c d lawful_both) did in
           let leaves = x.leaves tt in
           let now = after-piece actor token d q left files owners front leaves in
-          let ahead = more_of c (run_files actor token d q files front) (run_locks actor token d owners front) back now (honest-back front rest d honest_so) (lawful-back actor token front c d lawful_both) in
+          let ahead = more_of c (run_files actor token d q files front) (run_locks actor token d owners front) back now
+          (honest-back front rest d honest_so) (lawful-back actor token front c d lawful_both) in
           subst (Covered_so q) (sym same) (covers-then actor token d q left files owners front c leaves.rest x.covers ahead)
 
   -- ---- rounds
-  module _ {X R : Type 0} (round : X → Play (Next X R)) (Keeps : X → Type 0) (each : (x : X) → Keeps x → EachCommit (IsBy actor token) (round x)) (ends : (x : X) → Keeps x → AllEnds (NextKeeps Keeps) (round x)) where
-    pub loop_front : {x : X} {d : Disk} {es : List Event} {commits : Commits} {out : Result R Stop} (a b : List Event) (more : List (List Edit)) (files : Files) (owners : Locks) → es ≡ a ++ b → Keeps x
+  module _ {X R : Type 0} (round : X → Play (Next X R)) (Keeps : X → Type 0) (each : (x : X) → Keeps x → EachCommit (IsBy actor token) (round x))
+      (ends : (x : X) → Keeps x → AllEnds (NextKeeps Keeps) (round x)) where
+    pub loop_front : {x : X} {d : Disk} {es : List Event} {commits : Commits} {out : Result R Stop} (a b : List Event) (more : List (List Edit))
+        (files : Files) (owners : Locks) → es ≡ a ++ b → Keeps x
         → Stands actor token d files owners → Honest d es → OthersAreLawful actor token d a → PassesAll round x d es commits out → Covers actor token d (queue commits ++ more) files owners a
     loop_front {x = x} {d = d} {es = es} {commits = commits} a b more files owners whole keeps s honest lawful (last {r = r} goes) =
         play_front (round x) d es a b commits (Ok (Last r)) more files owners whole (each x keeps) s honest lawful goes
@@ -317,12 +317,14 @@ module _ (actor : List ℕ) (token : ℕ) (fits : token < 2 ^ 64) where
         pick more_of (inr (c, same, back)) =
             let q = queue_of first ++ left in
             let lawful_both = subst (OthersAreLawful actor token d) same lawful in
-            let one = play-passed actor token fits (round x) d front alone (Ok (Go y)) left files owners (each x keeps) s (honest-front front rest d honest_so) (lawful_front (first_job actor token []) front c d lawful_both) goes in
+            let one = play-passed actor token fits (round x) d front alone (Ok (Go y)) left files owners (each x keeps) s
+            (honest-front front rest d honest_so) (lawful_front (first_job actor token []) front c d lawful_both) goes in
             let kept : Keeps y = passes-ends actor token fits (NextKeeps Keeps) (round x) d front alone (Go y) (ends x keeps) goes in
             let z = passed-as actor token d (queue alone ++ left) q left (length first) (length first) files owners front same_queue refl one in
             let leaves = z.leaves tt in
             let now = after-piece actor token d q left files owners front leaves in
-            let ahead = more_of c (run_files actor token d q files front) (run_locks actor token d owners front) back kept now (honest-back front rest d honest_so) (lawful-back actor token front c d lawful_both) in
+            let ahead = more_of c (run_files actor token d q files front) (run_locks actor token d owners front) back kept now
+            (honest-back front rest d honest_so) (lawful-back actor token front c d lawful_both) in
             subst (λ (l : List Event). Covered_so l q) (sym same) (covers-then actor token d q left files owners front c leaves.rest z.covers ahead)
 
     -- and of rounds that events follow which only look
@@ -349,7 +351,8 @@ module _ (actor : List ℕ) (token : ℕ) (fits : token < 2 ^ 64) where
             subst (λ (l : List Event). Covers actor token d q files owners l) (sym same) (covers-then actor token d q left files owners xs c refl x y)
 
 -- what is due is what is promised
-pub up_to : (actor : List ℕ) (token : ℕ) (d : Disk) (commits : Commits) (a : List Event) → Covers actor token d (queue commits ++ []) (settled_files actor d) (settled_locks actor d) a → IsSafeUpTo actor token d commits a
+pub up_to : (actor : List ℕ) (token : ℕ) (d : Disk) (commits : Commits) (a : List Event)
+    → Covers actor token d (queue commits ++ []) (settled_files actor d) (settled_locks actor d) a → IsSafeUpTo actor token d commits a
 up_to actor token d commits a covers =
     let c = subst (λ (q : List (List Edit)). Covers actor token d q (settled_files actor d) (settled_locks actor d) a) (append-nil (queue commits)) covers in
     record { moments = c.moments; stops = c.stops }
@@ -360,4 +363,5 @@ stands_at actor token d a b may = record { settles = λ n. refl; locked = λ n. 
 pub promises_stand : PromisesStand
 promises_stand p actor token d front rest commits out each may passes =
     up_to actor token d commits front
-    (play_front actor token may.fits p d (front ++ rest) front rest commits out [] (settled_files actor d) (settled_locks actor d) refl each (stands_at actor token d front rest may) may.honest may.lawful passes)
+    (play_front actor token may.fits p d (front ++ rest) front rest commits out [] (settled_files actor d) (settled_locks actor d) refl each
+    (stands_at actor token d front rest may) may.honest may.lawful passes)

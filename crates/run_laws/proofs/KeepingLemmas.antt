@@ -1,6 +1,6 @@
 -- What becomes of the messages of a mailbox when a run changes it.
-use Rattle.std.proofs.Common.{◌≡◌, ◌≢◌, ◌⊎◌, ℕ, zero, suc, ◌-◌, ◌<◌, Bool, true, false, List, [], ◌∷◌, ◌++◌, Option, Some, Result, Ok, Err, map, length, get_or, ◌==◌, refl, sym, ap, subst, inl, inr, ◌∙◌, arith, append_assoc}
-use Rattle.std.specs.Prelude.{All, codes, if◌then◌else◌}
+use Rattle.std.proofs.Common.{◌≡◌, ◌≢◌, ◌⊎◌, ℕ, zero, suc, ◌-◌, ◌<◌, Bool, true, false, List, [], ◌∷◌, ◌++◌, Option, Some, Result, Ok, Err, map, length, get_or, ◌==◌, refl, sym, ap, subst, inl, inr, ◌∙◌, arith}
+use Rattle.std.specs.Prelude.{codes, if◌then◌else◌}
 use Rattle.std.specs.List.{Contains, slice_get, slice_set}
 use Rattle.std.specs.Str.{bytes_eq}
 use Rattle.std.proofs.lemmas.Bool.{cases_Bool}
@@ -9,10 +9,10 @@ use Rattle.std.proofs.lemmas.List.Elements.{All-head, All-tail, Contains-append_
 use Rattle.std.proofs.lemmas.Slice.Zip.{firsts-zip}
 use Rattle.host_port.specs.declared.event.Event.{Event}
 use Rattle.host_port.specs.Disk.{Disk, disk, after}
-use Rattle.mbox_scan.specs.Mailbox.{IsProper, texts_of}
+use Rattle.mbox_scan.specs.Mailbox.{texts_of}
 use Rattle.mailx_vars.specs.Settings.{Settings, is_set}
 use Rattle.folder_change.specs.declared.change.Change.{Change}
-use Rattle.folder_change.specs.declared.change.Change.TheVariants.{Rewrite, Add, Front, AddRaw}
+use Rattle.folder_change.specs.declared.change.Change.TheVariants.{Rewrite, Add, Front}
 use Rattle.folder_change.specs.Changes.{name_of}
 use Rattle.folder_change.specs.Apply.{Files, apply}
 use Rattle.folder_change.specs.Apply as applying
@@ -28,7 +28,7 @@ use Rattle.quit_rules.specs.declared.open.Open.{Open}
 use Rattle.quit_rules.specs.declared.gathered.Gathered.{Gathered}
 use Rattle.quit_rules.specs.declared.gathered.What.{What}
 use Rattle.quit_rules.specs.declared.gathered.What.TheVariants.{Texts, Bytes}
-use Rattle.quit_rules.specs.Gathering.{change_of, gathered_changes, put}
+use Rattle.quit_rules.specs.Gathering.{gathered_changes, put}
 use Rattle.quit_rules.specs.Plans.{IsOpen, Message, boxed, folder_changes, mbox_change, mbox_changes, messages_of, quit_changes, same_texts, stamped_text, staying}
 use Rattle.quit_rules.specs.QuitLaws.{is_given_up}
 use Rattle.quit_rules.proofs.QuitLawLemmas.{each-stands}
@@ -42,12 +42,11 @@ use Rattle.mailx_top.specs.declared.environment.Environment.{Environment}
 use Rattle.mailx_top.specs.Words.{Start}
 use Rattle.mailx_top.specs.Meaning.{actor_in}
 use Rattle.mailx_top.specs.Crash.{IsSafe}
-use Rattle.mailx_top.specs.Quits.{folder_file, LeavesFolder}
+use Rattle.mailx_top.specs.Quits.{folder_file}
 use Rattle.mailx_top.proofs.QuitLemmas.{quits-keep}
 use Rattle.mailx_top.proofs.EditionLemmas.{edits-keep}
-use Rattle.folder_commands.specs.Editing.{edited_texts}
 use Rattle.run_laws.specs.Keeping.{Holds, IsLater, before, mbox_file, IsTextOf, IsKept, stands, stamped, boxed as goes_to_mbox, given_up, QuitsKeepMessages, EditsKeepMessages, PutsTexts, nothing, passes, adds, fronts, IsPut, further, added, fronted, FilingsKeepMessages}
-use Rattle.run_laws.proofs.DecisionLemmas.{left_made}
+use Rattle.play_safety.proofs.AppendedLemmas.{left-made}
 
 -- ---- a list begins with another, or it doesn't
 abbrev Begins : List (List ℕ) → List (List ℕ) → Type 0
@@ -194,7 +193,7 @@ module _ (start : Option Start) (env : Environment) (status : Status) (d now : D
   made_of : (names : List (List ℕ)) (later : IsLater start env status d now es safe c names) (n : List ℕ) → Leave later.front later.decision later.behind n
       → settled_files (actor_in env) now n ≡ apply c.changes c.base (settled_files (actor_in env) (before later)) n
   made_of names later n alone =
-      left_made (actor_in env) env.token d es safe.commits safe.out safe.safe later.front later.behind later.decision now c n later.left later.decides alone
+      left-made (actor_in env) env.token d es safe.commits safe.out safe.safe later.front later.behind later.decision now c n later.left later.decides alone
 
 pub quits_keep_messages : QuitsKeepMessages
 quits_keep_messages start env status d now es safe c s later there leaves valid listed = (

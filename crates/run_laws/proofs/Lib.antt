@@ -1,9 +1,21 @@
-pub mod DecisionLemmas
 pub mod ChangingLemmas
 pub mod BracketLemmas
+pub mod CallLemmas
 pub mod ProgramLemmas
+pub mod StoppedLemmas
+pub mod TaskLemmas
 pub mod FrontLemmas
 pub mod DeliveryLemmas
 pub mod RunLemmas
+pub mod TogetherLemmas
 pub mod RowLemmas
+pub mod WhichLemmas
 pub mod KeepingLemmas
+pub mod TouchedLemmas
+pub mod HarmlessLemmas
+pub mod QuietLemmas
+pub mod TouchingLemmas
+pub mod BesideLemmas
+pub mod UndoneLemmas
+pub mod PlacedLemmas
+mod WorkedRun

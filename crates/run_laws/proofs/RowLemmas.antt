@@ -1,17 +1,15 @@
 -- Runs in a row.
-use Rattle.std.proofs.Common.{◌≡◌, ℕ, List, [], ◌∷◌, ◌++◌, refl, ap, sym, subst, ◌∙◌}
+use Rattle.std.proofs.Common.{◌≡◌, ℕ, List, [], ◌++◌, refl, ap, sym, subst, ◌∙◌}
 use Rattle.std.specs.Prelude.{take}
 use Rattle.host_port.specs.declared.event.Event.{Event}
 use Rattle.host_port.specs.Disk.{Disk, after_step}
 use Rattle.commit_machine.specs.Due.{settled_files}
 use Rattle.commit_machine.specs.Laws.{decisions}
 use Rattle.commit_machine.specs.Rows.{first_job, IsRunDue}
-use Rattle.session_play.specs.Committing.{Commit}
 use Rattle.play_safety.specs.Safe.{queue, IsCrashSafe}
-use Rattle.mailx_top.specs.Meaning.{actor_in}
-use Rattle.run_laws.specs.Changing.{made_by, decided_in}
-use Rattle.run_laws.specs.Rows.{Leg, decided_by, Row, none, run, others, all_decided, AllLeave, RowsAddUp, AnotherMayBegin, EndedIsAccepted}
-use Rattle.run_laws.proofs.DecisionLemmas.{left_due}
+use Rattle.run_laws.specs.Changing.{made_by}
+use Rattle.run_laws.specs.Rows.{Leg, decided_by, none, run, others, all_decided, RowsAddUp, AnotherMayBegin, EndedIsAccepted}
+use Rattle.play_safety.proofs.AppendedLemmas.{left-due}
 use Rattle.run_laws.proofs.ChangingLemmas.{made_alone, made_append, all_taken, run_made}
 
 module _ {actor : List ℕ} {d now : Disk} (leg : Leg actor d now) where
@@ -20,7 +18,7 @@ module _ {actor : List ℕ} {d now : Disk} (leg : Leg actor d now) where
   safe_of = subst (λ (a : List ℕ). IsCrashSafe a leg.env.token d leg.es leg.safe.commits leg.safe.out) leg.same leg.safe.safe
 
   due_of : IsRunDue actor leg.env.token d (queue leg.safe.commits) leg.seen now
-  due_of = left_due actor leg.env.token d leg.es leg.safe.commits leg.safe.out leg.seen now safe_of leg.left
+  due_of = left-due actor leg.env.token d leg.es leg.safe.commits leg.safe.out leg.seen now safe_of leg.left
 
 pub rows_add_up : RowsAddUp
 rows_add_up actor d now none n leave = refl

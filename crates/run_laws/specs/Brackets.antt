@@ -8,7 +8,6 @@ use Rattle.host_port.specs.Disk.{Disk, disk}
 use Rattle.host_port.specs.Own.{own, OnlyLooks}
 use Rattle.host_port.specs.Ran.{Honest}
 use Rattle.commit_machine.specs.Jobs.{Ending}
-use Rattle.commit_driver.specs.Did.{LoadsFit}
 use Rattle.core_steps.specs.declared.actor.Task.TheVariants as task
 use Rattle.core_steps.specs.Shown.{IsBracketOf}
 use Rattle.core_steps.specs.Commits.{IsActorOf}
@@ -38,7 +37,7 @@ AllShowSteps {round = round} (again {x = x} {y = y} {d = d} front rest first lat
 AllShowSteps {round = round} (last {x = x} {d = d} {es = es} {commits = commits} {r = r} goes) = EachShowsSteps (round x) d es commits (Ok (Last r)) goes
 AllShowSteps {round = round} (cut {x = x} {d = d} {es = es} {commits = commits} {cause = cause} goes) = EachShowsSteps (round x) d es commits (Err cause) goes
 
--- so it is in each trace of a play of which each event says what is so, if no own load in it saw a file past the limit
+-- so it is in each trace of a play of which each event says what is so
 abbrev pub PlaysShowSteps : Type 0
 PlaysShowSteps = (p : Play (Unit {0})) (d : Disk) (es : List Event) (commits : Commits) (out : Result Unit Stop) (passes : Passes p d es commits out)
-    → Honest d es → LoadsFit (own es) → EachShowsSteps p d es commits out passes
+    → Honest d es → EachShowsSteps p d es commits out passes

@@ -4,5 +4,10 @@ pub mod Programs
 pub mod Fronts
 pub mod Deliveries
 pub mod Runs
+pub mod Together
 pub mod Rows
+pub mod Which
 pub mod Keeping
+pub mod Beside
+pub mod Placed
+pub mod WorkedRun

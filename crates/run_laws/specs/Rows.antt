@@ -1,18 +1,13 @@
 -- Runs in a row: each begins on the disk that the one before left where it ended or was stopped.
-use Rattle.std.specs.Prelude.{◌≡◌, ℕ, List, [], ◌∷◌, ◌++◌, take}
+use Rattle.std.specs.Prelude.{◌≡◌, ℕ, List, [], ◌++◌}
 use Rattle.std.specs.declared.option.Option.{Option}
 use Rattle.host_port.specs.declared.event.Event.{Event}
-use Rattle.host_port.specs.declared.event.Event.TheVariants.{Foreign}
 use Rattle.host_port.specs.declared.event.ForeignStep.{ForeignStep}
-use Rattle.host_port.specs.Disk.{Disk, after, after_step}
-use Rattle.folder_change.specs.Apply.{Files, apply}
+use Rattle.host_port.specs.Disk.{Disk, after_step}
 use Rattle.commit_machine.specs.Due.{settled_files}
 use Rattle.commit_machine.specs.Lawful.{IsFresh, OthersAreLawful}
-use Rattle.commit_machine.specs.Laws.{decisions}
-use Rattle.commit_machine.specs.Rows.{first_job}
 use Rattle.folder_commit.specs.Safe.{MayCommit}
 use Rattle.session_play.specs.Committing.{Commit}
-use Rattle.play_safety.specs.Passes.{Commits}
 use Rattle.play_safety.specs.Appended.{IsLeft}
 use Rattle.session_state.specs.declared.status.Status.{Status}
 use Rattle.mailx_top.specs.declared.environment.Environment.{Environment}

@@ -114,7 +114,8 @@ laid-desk desk n text changes e d is =
     }
 
 -- the desk with it, once the message was looked at
-pub looked-desk : (desk : Desk) (n : ℕ) (text : List ℕ) (changes : List Change) (e : Edited) → IsDesk desk → IsMessageOf desk.shown n → IsEdited desk n text changes e → IsDesk (effect (laid_as desk n e) e.effects)
+pub looked-desk : (desk : Desk) (n : ℕ) (text : List ℕ) (changes : List Change) (e : Edited) → IsDesk desk → IsMessageOf desk.shown n
+    → IsEdited desk n text changes e → IsDesk (effect (laid_as desk n e) e.effects)
 looked-desk desk n text changes e d of is =
     let rows = slice_set desk.shown.rows (n - 1) e.row in
     let inside : n ≤ length rows = subst (λ (m : ℕ). n ≤ m) (sym (set-length desk.shown.rows (n - 1) e.row)) of.1 in

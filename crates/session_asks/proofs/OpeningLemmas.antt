@@ -39,10 +39,18 @@ all-aside (t ∷ ts) [] h = absurd h
 all-aside (t ∷ ts) (r ∷ rs) h = (marks-aside t r h.0, all-aside ts rs h.1)
 
 -- a folder that was just loaded
-pub opened-desk : (desk : Desk) (name bytes : List ℕ) (system : Bool) (rows : List Row) → 2 ≤ desk.places.width → AreRows (texts_of bytes) rows → All (λ (row : Row). IfSome row.moment IsInYears) rows → length rows ≤ message_limit → first_current rows ≤ length rows
+pub opened-desk : (desk : Desk) (name bytes : List ℕ) (system : Bool) (rows : List Row) → 2 ≤ desk.places.width → AreRows (texts_of bytes) rows
+    → All (λ (row : Row). IfSome row.moment IsInYears) rows → length rows ≤ message_limit → first_current rows ≤ length rows
     → IsDesk (with_folder desk (record { name = name; system = system; folder = bytes; marks = map (λ row. row.mark) rows }) (plain rows))
 opened-desk desk name bytes system rows wide are years few within = record {
-  shown = record { few = few; order = IsPermutation-refl (range_with_len 1 (length rows)); depths = length-replicate (length rows) 0 ∙ sym (length-range_with_len 1 (length rows)); current = within; years = years };
+  shown = record {
+    few = few;
+    order = IsPermutation-refl (range_with_len 1 (length rows));
+    depths =
+        length-replicate (length rows) 0 ∙ sym (length-range_with_len 1 (length rows));
+    current = within;
+    years = years;
+  };
   rows = all-aside (texts_of bytes) rows are;
   marks = refl;
   width = wide;

@@ -62,7 +62,8 @@ current-within current rows n within more = go (current == 0) refl
     go false is = omega (arith, within, more)
 
 -- what is shown then is valid
-pub shows-more : (desk : Desk) (more : List Row) (view : View) → IsShown desk.shown → length (desk.shown.rows ++ more) ≤ message_limit → All (λ (row : Row). IfSome row.moment IsInYears) (desk.shown.rows ++ more)
+pub shows-more : (desk : Desk) (more : List Row) (view : View) → IsShown desk.shown → length (desk.shown.rows ++ more) ≤ message_limit
+    → All (λ (row : Row). IfSome row.moment IsInYears) (desk.shown.rows ++ more)
     → length desk.shown.rows ≤ length (desk.shown.rows ++ more) → IsViewOf desk.view (desk.shown.rows ++ more) view → IsShown (with_more desk (desk.shown.rows ++ more) view).shown
 shows-more desk more view shown few years longer viewed = record {
   few = few;
@@ -75,12 +76,17 @@ shows-more desk more view shown few years longer viewed = record {
 -- the desk with such parts is that
 pub more-is : (desk : Desk) (more rows : List Row) (marks : List Mark) (view : View) (current : ℕ) → marks ≡ map (λ row. row.mark) (desk.shown.rows ++ more) → rows ≡ desk.shown.rows ++ more
     → current ≡ current_among desk.shown.current (desk.shown.rows ++ more)
-    → record desk { folder = record desk.folder { marks = marks }; shown = record { rows = rows; order = view.order; depth = view.depth; current = current } } ≡ with_more desk (desk.shown.rows ++ more) view
+    → record desk {
+      folder = record desk.folder { marks = marks };
+      shown =
+          record { rows = rows; order = view.order; depth = view.depth; current = current };
+    } ≡ with_more desk (desk.shown.rows ++ more) view
 more-is desk more rows marks view current m r c =
     (λ i. record desk { folder = record desk.folder { marks = m i }; shown = record { rows = r i; order = view.order; depth = view.depth; current = c i } })
 
 -- the desk is valid then
-pub renewed-desk : (old new : Desk) (f : Option Found) (t : TakesIn old f new) → IsDesk old → texts_of t.bytes ≡ texts_of old.folder.folder ++ drop (length (texts_of old.folder.folder)) (texts_of t.bytes)
+pub renewed-desk : (old new : Desk) (f : Option Found) (t : TakesIn old f new) → IsDesk old
+    → texts_of t.bytes ≡ texts_of old.folder.folder ++ drop (length (texts_of old.folder.folder)) (texts_of t.bytes)
     → IsShown new.shown → IsDesk new
 renewed-desk old new f t d begins shown =
     let more = t.shows.more in
@@ -101,7 +107,8 @@ know-more s new f out t es went =
     subst G (sym t.grown) (inl (t.shows.more, [], es, refl, (refl, t.shows.are), inl (t.shows.view, [], es, refl, (refl, t.shows.viewed), subst H t.shows.is went)))
 
 -- what refuses it
-pub refused-taking : (s t : SessionState) (h : OrFault (List ℕ)) (r : Refusal) (result : Result Asked RunError) → IsRefused r h → IsRefusedSo r result → Goes (taking s h) [] (in_play (after_asks t) result)
+pub refused-taking : (s t : SessionState) (h : OrFault (List ℕ)) (r : Refusal) (result : Result Asked RunError) → IsRefused r h → IsRefusedSo r result
+    → Goes (taking s h) [] (in_play (after_asks t) result)
 refused-taking s t h (refusal.Fault line) result is so =
     let G : OrFault (List ℕ) → Type 0 = λ h. Goes (taking s h) [] (in_play (after_asks t) result) in
     let K : Result Asked RunError → Type 0 = λ r. Goes (taking s (Err line)) [] (in_play (after_asks t) r) in

@@ -25,7 +25,7 @@ use Rattle.command_desk.specs.declared.naming.Naming.TheVariants as naming
 use Rattle.command_desk.specs.declared.steps.Ask as asked_of
 use Rattle.command_desk.specs.Answers.{quietly}
 use Rattle.command_desk.specs.Effects.{renames}
-use Rattle.macro_commands.specs.Defining.{or_macro_fault}
+use Rattle.desk_commands.specs.Defining.{or_macro_fault}
 use Rattle.read_commands.specs.Origins.{commanded, is_defining, is_startup_ask}
 use Rattle.read_commands.specs.declared.origin.Origin.{Origin}
 use Rattle.session_state.specs.declared.answers.Asked.{Asked}
@@ -249,7 +249,8 @@ source-few s name plain = ltb-true (sources s.frames) source_limit (go (is_short
 
 -- and so do no lines, with the count as it was
 pub weight_kept : (s t : SessionState) → KeepsOthers s t → t.frames ≡ s.frames → weight t ≤ weight s
-weight_kept s t others same = subst (λ (u : SessionState). weight u ≤ weight s) (sym (others ∙ ap (λ (fs : List Pending). with_file (with_draft (with_frames (with_desk s t.desk) fs) t.draft) t.file) same)) (le-refl (weight s))
+weight_kept s t others same = subst (λ (u : SessionState). weight u ≤ weight s)
+    (sym (others ∙ ap (λ (fs : List Pending). with_file (with_draft (with_frames (with_desk s t.desk) fs) t.draft) t.file) same)) (le-refl (weight s))
 
 -- a line of a definition brings nothing
 definition-brings : (b : Bool) (o : Option MacroError) (line : List ℕ)

@@ -1,7 +1,6 @@
 // One case: its run, and what is printed of it.
 use case_blocks::{
-    Answer, Case, Tells, host, is_case, number, pairs_of, put_disk, put_unknown, value, view,
-    words_of,
+    Answer, Case, host, is_case, number, pairs_of, put_disk, put_unknown, value, view, words_of,
 };
 use host_memory::MemHost;
 use host_port::Event;
@@ -134,23 +133,20 @@ fn put_trial(case: Case<'_>, count: u64, out: &mut Answer) {
     }
 }
 
-/// The runs of cases, and each line that says nothing known.
-pub struct Runs;
-
-impl Tells for Runs {
-    fn tell(&self, case: Case<'_>, out: &mut Answer) {
-        put_unknown(case.own, &HEADS, out);
-        if is_case(case) {
-            match value(case, "trial ") {
-                Some(count) => put_trial(case, number(count), out),
-                None => match host(case, out) {
-                    Ok(mut host) => {
-                        put_run(case, &mut host, out);
-                        drop(host);
-                    }
-                    Err(Memory) => out.lack(),
-                },
+/// Puts the run of a case, and each line that says nothing known.
+pub fn put_case(case: Case<'_>, out: &mut Answer) {
+    put_unknown(case.own, &HEADS, out);
+    if !is_case(case) {
+        return;
+    }
+    match value(case, "trial ") {
+        Some(count) => put_trial(case, number(count), out),
+        None => match host(case, out) {
+            Ok(mut host) => {
+                put_run(case, &mut host, out);
+                drop(host);
             }
-        }
+            Err(Memory) => out.lack(),
+        },
     }
 }

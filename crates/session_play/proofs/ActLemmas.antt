@@ -41,7 +41,8 @@ loaded-ok name a d e is =
     let P : Event → Type 0 = λ e. Agrees d e × Goes {R = Found} (Ask (Read name) Ret) (own (e ∷ [])) (Ok (found.Bytes a.bytes a.held)) in
     subst P (sym is.0) ((is.1, is.2), inl (found.Bytes a.bytes a.held, event.Load name (seen.Bytes a.bytes a.held) ∷ [], [], refl, refl, (refl, inl refl)))
 
-pub loaded-large : (name : List ℕ) (n : ℕ) (d : Disk) (e : Event) → Loaded name (Err (error.TooLarge n)) d e → Agrees d e × Goes {R = Found} (Ask (Read name) Ret) (own (e ∷ [])) (Ok (found.TooLarge n))
+pub loaded-large : (name : List ℕ) (n : ℕ) (d : Disk) (e : Event) → Loaded name (Err (error.TooLarge n)) d e
+    → Agrees d e × Goes {R = Found} (Ask (Read name) Ret) (own (e ∷ [])) (Ok (found.TooLarge n))
 loaded-large name n d e is =
     let P : Event → Type 0 = λ e. Agrees d e × Goes {R = Found} (Ask (Read name) Ret) (own (e ∷ [])) (Ok (found.TooLarge n)) in
     subst P (sym is.0) (is.1, inl (found.TooLarge n, event.Load name (seen.TooLarge n) ∷ [], [], refl, refl, (refl, inl refl)))

@@ -171,7 +171,8 @@ cut-by (Changes c) stop.Input es i le same never = absurd never
 cut-by (Changes c) stop.Output es i le same never = absurd never
 cut-by (Changes c) stop.TooMuch es i le same never = absurd never
 cut-by (Recover actor token) stop.Disk es i le same h = let s = recovery-streams actor token es (Err recover.Disk) h in streams-cut stop.Disk es i refl refl (let b = s.bytes in omega (arith, b)) s
-cut-by (Recover actor token) stop.Memory es i le same h = let s = recovery-streams actor token es (Err recover.Memory) h in streams-cut stop.Memory es i refl refl (let b = s.bytes in omega (arith, b)) s
+cut-by (Recover actor token) stop.Memory es i le same h = let s = recovery-streams actor token es (Err recover.Memory) h in
+    streams-cut stop.Memory es i refl refl (let b = s.bytes in omega (arith, b)) s
 cut-by (Recover actor token) stop.Input es i le same never = absurd never
 cut-by (Recover actor token) stop.Output es i le same never = absurd never
 cut-by (Recover actor token) stop.TooMuch es i le same never = absurd never
@@ -237,7 +238,8 @@ did-clean (Now tz) m es i le same did = event-clean _ es i le did.1 (record { in
 did-clean (Know texts) rows es i le same did = none-clean es i le did.0
 
 -- a play that came to its end is clean
-goes-clean : {R : Type 0} (Ends : R → Input → Type 0) (p : Play R) (i : Input) (r : R) (es : List Event) → Threads Ends i p → i.taken ≤ input_limit → Goes p es (Ok r) → (j : Input) × Ends r j × IsClean es i j
+goes-clean : {R : Type 0} (Ends : R → Input → Type 0) (p : Play R) (i : Input) (r : R) (es : List Event) → Threads Ends i p → i.taken ≤ input_limit
+    → Goes p es (Ok r) → (j : Input) × Ends r j × IsClean es i j
 goes-clean Ends (Ret q) i r es t le (none, inl same) =
     (i, subst (λ q. Ends q i) (sym (ok-same r q same)) t, subst (λ (es : List Event). IsClean es i i) (sym none) (clean-none i le))
 goes-clean Ends (Ret q) i r es t le (none, inr other) = absurd (cc other)
@@ -481,7 +483,10 @@ explained {R = R} (Err cause) es loads commits i zero_taken disks c = record {
   input = (λ e. c.in_is ∙ ap is_in (err-same {R = R} cause stop.Input e), λ h. ap (was_cut {R = R}) (of-in cause (sym c.in_is ∙ h)));
   output = (λ e. c.out_is ∙ ap is_out (err-same {R = R} cause stop.Output e), λ h. ap (was_cut {R = R}) (of-out cause (sym c.out_is ∙ h)));
   disk = (λ e. disks ∙ ap is_disk_cut e, λ h. disk-cut (Err cause) (sym disks ∙ h));
-  too_much = (λ e. (let a = subst (λ (s : Stop). Amount s (i.taken + bytes_in es)) (err-same {R = R} cause stop.TooMuch e) c.amount in omega arith), λ h. ap (was_cut {R = R}) (of-amount cause (i.taken + bytes_in es) (omega arith) c.amount));
+  too_much = (
+    λ e. (let a = subst (λ (s : Stop). Amount s (i.taken + bytes_in es)) (err-same {R = R} cause stop.TooMuch e) c.amount in omega arith),
+    λ h. ap (was_cut {R = R}) (of-amount cause (i.taken + bytes_in es) (omega arith) c.amount),
+  );
 }
   where
     of-in : (cause : Stop) → is_in cause ≡ true → cause ≡ stop.Input

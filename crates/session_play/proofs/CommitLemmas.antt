@@ -79,7 +79,8 @@ answer-fine (committed.Changed name at) = refl
 answer-fine (committed.TooLarge name n) = refl
 answer-fine (committed.TooManyNames n) = refl
 
-changes-failed : (actor : List ℕ) (token : ℕ) (cs : List Change) (base : List (List ℕ)) (es : List Event) (answer : Result Unit CommitError) → IsCommit actor token cs base es answer → list_any is_failed es ≡ is_fault answer
+changes-failed : (actor : List ℕ) (token : ℕ) (cs : List Change) (base : List (List ℕ)) (es : List Event) (answer : Result Unit CommitError)
+    → IsCommit actor token cs base es answer → list_any is_failed es ≡ is_fault answer
 changes-failed actor token [] base es answer (none, is) = ap (list_any is_failed) none ∙ sym (ap is_fault is)
 changes-failed actor token (x ∷ cs) base es answer (inl (many, (none, inl is))) = ap (list_any is_failed) none ∙ sym (ap is_fault is)
 changes-failed actor token (x ∷ cs) base es answer (inl (many, (none, inr is))) = ap (list_any is_failed) none ∙ sym (ap is_fault is)

@@ -27,7 +27,8 @@ still_open i none = go (first_line i.rest) i.ended none
     go None true e = absurd (cc e)
     go None false e = refl
 
-at-event : (bytes : List ℕ) (failed : Bool) (result : Result Unit Stop) (i j : Input) (d : Disk) (e : Event) → TookSome result i j (event.In bytes failed ∷ []) → e ≡ event.In bytes failed → Agrees d e × TookSome result i j (own (e ∷ []))
+at-event : (bytes : List ℕ) (failed : Bool) (result : Result Unit Stop) (i j : Input) (d : Disk) (e : Event)
+    → TookSome result i j (event.In bytes failed ∷ []) → e ≡ event.In bytes failed → Agrees d e × TookSome result i j (own (e ∷ []))
 at-event bytes failed result i j d e took is =
     let P : Event → Type 0 = λ e. Agrees d e × TookSome result i j (own (e ∷ [])) in
     subst P (sym is) (tt, took)

@@ -36,7 +36,8 @@ tail-is xs bs at e = rw e (take-whole (length bs - at) (drop at bs) (omega (arit
     take-whole (suc n) (x ∷ l) h = ap (λ r. x ∷ r) (take-whole n l (omega arith))
 
 -- a line that ends in a line feed
-pub next-some : {rest line : List ℕ} (bs : List ℕ) (at k taken : ℕ) (ended : Bool) → k < length rest → get_or rest k 0 ≡ 10 → ((j : ℕ) → j < k → get_or rest j 0 ≡ 10 → ⊥) → line ≡ take k rest → rest ≡ drop at bs
+pub next-some : {rest line : List ℕ} (bs : List ℕ) (at k taken : ℕ) (ended : Bool) → k < length rest → get_or rest k 0 ≡ 10
+    → ((j : ℕ) → j < k → get_or rest j 0 ≡ 10 → ⊥) → line ≡ take k rest → rest ≡ drop at bs
     → next_line (record { rest = drop at bs; ended = ended; taken = taken }) ≡ Some (Some line, record { rest = drop (at + (k + 1)) bs; ended = ended; taken = taken })
 next-some {rest = rest} {line = line} bs at k taken ended lt is before cut whole =
     let found = first-found rest k lt is before in
@@ -59,7 +60,8 @@ drop-past zero (x ∷ l) h = absurd (omega arith)
 drop-past (suc n) (x ∷ l) h = drop-past n l (omega arith)
 
 -- the last line has no line feed
-pub next-last : {rest : List ℕ} (bs : List ℕ) (at taken : ℕ) (line : List ℕ) (ended : Bool) (len : ℕ) → ((j : ℕ) → j < length rest → get_or rest j 0 ≡ 10 → ⊥) → rest ≡ drop at bs → ended ≡ true → 0 < length rest → line ≡ rest → length bs ≤ len
+pub next-last : {rest : List ℕ} (bs : List ℕ) (at taken : ℕ) (line : List ℕ) (ended : Bool) (len : ℕ)
+    → ((j : ℕ) → j < length rest → get_or rest j 0 ≡ 10 → ⊥) → rest ≡ drop at bs → ended ≡ true → 0 < length rest → line ≡ rest → length bs ≤ len
     → next_line (record { rest = drop at bs; ended = ended; taken = taken }) ≡ Some (Some line, record { rest = drop len bs; ended = ended; taken = taken })
 next-last {rest = rest} bs at taken line ended len none whole end some is past =
     let G : List ℕ → Bool → Type 0 = λ r e. next_of (first_line r) e (record { rest = r; ended = e; taken = taken }) ≡ Some (Some line, record { rest = drop len bs; ended = e; taken = taken }) in
@@ -78,7 +80,8 @@ onto-shorter : (b n : ℕ) (q : Option (List ℕ × List ℕ)) (p : List ℕ × 
 onto-shorter b n None p less e = absurd (cc e)
 onto-shorter b n (Some q) p less e = let l = less q refl in let same : q.1 ≡ p.1 = ap second-of e in let m = ap length same in omega arith
 
-found-shorter : (t : Bool) (bs : List ℕ) (q : Option (List ℕ × List ℕ)) (p : List ℕ × List ℕ) → (q ≡ Some p → length p.1 < suc (length bs)) → (if t then Some ([], bs) else q) ≡ Some p → length p.1 < suc (length bs)
+found-shorter : (t : Bool) (bs : List ℕ) (q : Option (List ℕ × List ℕ)) (p : List ℕ × List ℕ) → (q ≡ Some p → length p.1 < suc (length bs))
+    → (if t then Some ([], bs) else q) ≡ Some p → length p.1 < suc (length bs)
 found-shorter true bs q p less e = let same : bs ≡ p.1 = ap second-of e in let m = ap length same in omega arith
 found-shorter false bs q p less e = less e
 
@@ -106,7 +109,8 @@ last-less (b ∷ r) i j line whole e =
     let L : Input → Type 0 = λ j. left j < left i in
     subst L same (omega arith)
 
-next-less : (i j : Input) (line : List ℕ) (q : Option (List ℕ × List ℕ)) (b : Bool) → ((p : List ℕ × List ℕ) → q ≡ Some p → length p.1 < length i.rest) → next_of q b i ≡ Some (Some line, j) → left j < left i
+next-less : (i j : Input) (line : List ℕ) (q : Option (List ℕ × List ℕ)) (b : Bool)
+    → ((p : List ℕ × List ℕ) → q ≡ Some p → length p.1 < length i.rest) → next_of q b i ≡ Some (Some line, j) → left j < left i
 next-less i j line (Some p) b less e =
     let l = less p refl in
     let J : Input = record { rest = p.1; ended = b; taken = i.taken } in

@@ -48,7 +48,8 @@ named-files actor (c ∷ cs) plain =
     All-cons (λ (c : Change). is_file_name actor (name_of c) ≡ true) c cs (named-file actor (name_of c) (none-here (name_of c) (misnamed actor (name_of c)) p.0)) (named-files actor cs p.1)
 
 -- the changes from a place on
-from-place : (actor : List ℕ) (cs : List Change) (i : ℕ) (d c : Change) → i < length cs → get_or cs i d ≡ c → first_misnamed actor (drop i cs) ≡ option_or (here actor c) (first_misnamed actor (drop (i + 1) cs))
+from-place : (actor : List ℕ) (cs : List Change) (i : ℕ) (d c : Change) → i < length cs → get_or cs i d ≡ c
+    → first_misnamed actor (drop i cs) ≡ option_or (here actor c) (first_misnamed actor (drop (i + 1) cs))
 from-place actor cs i d c within is =
     ap (first_misnamed actor) (drop-cons cs i d within)
     ∙ (ap (λ (b : Change). option_or (here actor b) (first_misnamed actor (drop (suc i) cs))) is

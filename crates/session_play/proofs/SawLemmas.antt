@@ -15,7 +15,8 @@ pub saw-append : (test : Seen → Bool) (es fs : List Event) → some_load_saw t
 saw-append test [] fs h = refl
 saw-append test (event.Load name s ∷ es) fs h = go (test s) h (saw-append test es fs)
   where
-    go : (b : Bool) → (b || some_load_saw test es) ≡ false → (some_load_saw test es ≡ false → some_load_saw test (es ++ fs) ≡ some_load_saw test fs) → (b || some_load_saw test (es ++ fs)) ≡ some_load_saw test fs
+    go : (b : Bool) → (b || some_load_saw test es) ≡ false → (some_load_saw test es ≡ false → some_load_saw test (es ++ fs) ≡ some_load_saw test fs)
+        → (b || some_load_saw test (es ++ fs)) ≡ some_load_saw test fs
     go true h more = absurd (cc h)
     go false h more = more h
 saw-append test (e ∷ es) fs h = saw-append test es fs h

@@ -5,6 +5,7 @@ use Rattle.std.specs.declared.result.Result.TheVariants.{Ok, Err}
 use Rattle.host_port.specs.declared.event.Event.{Event}
 use Rattle.commit_machine.specs.Edits.{recovery_for}
 use Rattle.commit_driver.specs.declared.step.Recovered.{Recovered}
+use Rattle.commit_driver.specs.Did.{LoadsFit}
 use Rattle.folder_recovery.specs.declared.error.RecoverError.{RecoverError}
 use Rattle.folder_recovery.specs.declared.error.RecoverError.TheVariants as error
 use Rattle.folder_recovery.specs.Recovering.{Recovers}
@@ -21,9 +22,9 @@ recovery_as recovery.NotARecord = Err error.NotARecord
 recovery_as (recovery.TooLarge name length) = Err (error.TooLarge name length)
 
 -- Own events of an actor's recovery that gives this answer: those of one bracket, which carry the machine of a recovery from its start to its
--- end. The token is that of the run; the recovery itself uses the one in the record.
+-- end, and of whose loads each has what a load takes. The token is that of the run; the recovery itself uses the one in the record.
 abbrev pub IsRecoveryOf : List ℕ → ℕ → List Event → Result Recovered RecoverError → Type 0
-IsRecoveryOf actor token es result = Recovers (recovery_for actor token) es result
+IsRecoveryOf actor token es result = LoadsFit es × Recovers (recovery_for actor token) es result
 
 -- what a run makes of a recovery's answer: a fault of the disk and running out of memory cut it off
 abbrev pub recovered : Result Recovered RecoverError → Result RecoveryAnswer Stop

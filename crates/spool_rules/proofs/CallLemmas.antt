@@ -16,7 +16,8 @@ use Rattle.spool_rules.specs.Lawful.{GoneThen, IsNameOf, LockedThen, MayRemove, 
 -- one more at the end
 lawful_more : (n : ℕ) (r : Request) (before steps : List Step) (step : Step) → LawfulAfter n r before steps → MayCome n r (before ++ steps) step → LawfulAfter n r before (steps ++ step ∷ [])
 lawful_more n r before [] step h may = (subst (λ (b : List Step). MayCome n r b step) (append-nil before) may, tt)
-lawful_more n r before (first ∷ steps) step h may = (h.0, lawful_more n r (before ++ first ∷ []) steps step h.1 (subst (λ (b : List Step). MayCome n r b step) (sym (append_assoc before (first ∷ []) steps)) may))
+lawful_more n r before (first ∷ steps) step h may =
+    (h.0, lawful_more n r (before ++ first ∷ []) steps step h.1 (subst (λ (b : List Step). MayCome n r b step) (sym (append_assoc before (first ∷ []) steps)) may))
 
 -- who the caller is stays known
 knows_more : (n : ℕ) (r : Request) (steps : List Step) (step : Step) → KnowsCaller n r steps → KnowsCaller n r (steps ++ step ∷ [])
@@ -91,19 +92,36 @@ if_added P Q (Some steps) new step h e p = subst (λ (t : Option (List Step)). I
 pub look_keeps : (n : ℕ) (r : Request) (old new : Option (List Step)) (name : List ℕ) (seen : Result Seen Stop) → new ≡ added old (Look name seen) → IsNameOf r name → Sound n r old → Sound n r new
 look_keeps n r old new name seen e is = sound_call n r old new (Look name seen) e (always (λ steps. IsNameOf r name) old (λ steps. is))
 
-pub make_keeps : (n : ℕ) (r : Request) (old new : Option (List Step)) (done : Result Unit Stop) → new ≡ added old (Make r.beside r.token done) → r.operation ≡ op.Lock → IfSome old (λ steps. GoneThen r.beside [] steps) → Sound n r old → Sound n r new
-make_keeps n r old new done e locks gone = sound_call n r old new (Make r.beside r.token done) e (weaken (λ steps. GoneThen r.beside [] steps) (λ steps. (r.beside ≡ r.beside) × (r.token ≡ r.token) × (r.operation ≡ op.Lock) × GoneThen r.beside [] steps) old (λ steps m. (refl, refl, locks, m)) gone)
+pub make_keeps : (n : ℕ) (r : Request) (old new : Option (List Step)) (done : Result Unit Stop) → new ≡ added old (Make r.beside r.token done)
+    → r.operation ≡ op.Lock → IfSome old (λ steps. GoneThen r.beside [] steps) → Sound n r old → Sound n r new
+make_keeps n r old new done e locks gone =
+    sound_call n r old new (Make r.beside r.token done) e
+    (weaken (λ steps. GoneThen r.beside [] steps)
+    (λ steps. (r.beside ≡ r.beside) × (r.token ≡ r.token) × (r.operation ≡ op.Lock) × GoneThen r.beside [] steps) old (λ steps m. (refl, refl, locks, m)) gone)
 
-pub take_keeps : (n : ℕ) (r : Request) (old new : Option (List Step)) (mode : ℕ) (done : Result Unit Stop) → new ≡ added old (Take r.staged mode done) → r.operation ≡ op.Stage → IfSome old HasInput → IfSome old (λ steps. MayTake n r steps mode) → Sound n r old → Sound n r new
-take_keeps n r old new mode done e stages input may = sound_call n r old new (Take r.staged mode done) e (weaken (λ steps. HasInput steps × MayTake n r steps mode) (λ steps. (r.staged ≡ r.staged) × (r.operation ≡ op.Stage) × HasInput steps × MayTake n r steps mode) old (λ steps m. (refl, stages, m.0, m.1)) (both HasInput (λ steps. MayTake n r steps mode) old input may))
+pub take_keeps : (n : ℕ) (r : Request) (old new : Option (List Step)) (mode : ℕ) (done : Result Unit Stop) → new ≡ added old (Take r.staged mode done)
+    → r.operation ≡ op.Stage → IfSome old HasInput → IfSome old (λ steps. MayTake n r steps mode) → Sound n r old → Sound n r new
+take_keeps n r old new mode done e stages input may =
+    sound_call n r old new (Take r.staged mode done) e
+    (weaken (λ steps. HasInput steps × MayTake n r steps mode)
+    (λ steps. (r.staged ≡ r.staged) × (r.operation ≡ op.Stage) × HasInput steps × MayTake n r steps mode) old (λ steps m. (refl, stages, m.0, m.1))
+    (both HasInput (λ steps. MayTake n r steps mode) old input may))
 
-pub link_keeps : (n : ℕ) (r : Request) (old new : Option (List Step)) (free : Result Bool Stop) → new ≡ added old (Link r.beside r.lock free) → IfSome old (λ steps. EndsWith steps (Make r.beside r.token (Ok tt) ∷ [])) → Sound n r old → Sound n r new
-link_keeps n r old new free e made = sound_call n r old new (Link r.beside r.lock free) e (weaken (λ steps. EndsWith steps (Make r.beside r.token (Ok tt) ∷ [])) (λ steps. (r.beside ≡ r.beside) × (r.lock ≡ r.lock) × EndsWith steps (Make r.beside r.token (Ok tt) ∷ [])) old (λ steps m. (refl, refl, m)) made)
+pub link_keeps : (n : ℕ) (r : Request) (old new : Option (List Step)) (free : Result Bool Stop) → new ≡ added old (Link r.beside r.lock free)
+    → IfSome old (λ steps. EndsWith steps (Make r.beside r.token (Ok tt) ∷ [])) → Sound n r old → Sound n r new
+link_keeps n r old new free e made = sound_call n r old new (Link r.beside r.lock free) e
+    (weaken (λ steps. EndsWith steps (Make r.beside r.token (Ok tt) ∷ []))
+    (λ steps. (r.beside ≡ r.beside) × (r.lock ≡ r.lock) × EndsWith steps (Make r.beside r.token (Ok tt) ∷ [])) old (λ steps m. (refl, refl, m)) made)
 
-pub rename_keeps : (n : ℕ) (r : Request) (old new : Option (List Step)) (done : Result Unit Stop) → new ≡ added old (Rename r.staged r.mailbox done) → r.operation ≡ op.Publish → IfSome old (λ steps. MayReplace n r steps) → Sound n r old → Sound n r new
-rename_keeps n r old new done e publishes may = sound_call n r old new (Rename r.staged r.mailbox done) e (weaken (λ steps. MayReplace n r steps) (λ steps. (r.staged ≡ r.staged) × (r.mailbox ≡ r.mailbox) × (r.operation ≡ op.Publish) × MayReplace n r steps) old (λ steps m. (refl, refl, publishes, m)) may)
+pub rename_keeps : (n : ℕ) (r : Request) (old new : Option (List Step)) (done : Result Unit Stop) → new ≡ added old (Rename r.staged r.mailbox done)
+    → r.operation ≡ op.Publish → IfSome old (λ steps. MayReplace n r steps) → Sound n r old → Sound n r new
+rename_keeps n r old new done e publishes may =
+    sound_call n r old new (Rename r.staged r.mailbox done) e
+    (weaken (λ steps. MayReplace n r steps) (λ steps. (r.staged ≡ r.staged) × (r.mailbox ≡ r.mailbox) × (r.operation ≡ op.Publish)
+    × MayReplace n r steps) old (λ steps m. (refl, refl, publishes, m)) may)
 
-pub remove_keeps : (n : ℕ) (r : Request) (old new : Option (List Step)) (name : List ℕ) (done : Result Unit Stop) → new ≡ added old (Remove name done) → IfSome old (λ steps. MayRemove n r steps name) → Sound n r old → Sound n r new
+pub remove_keeps : (n : ℕ) (r : Request) (old new : Option (List Step)) (name : List ℕ) (done : Result Unit Stop) → new ≡ added old (Remove name done)
+    → IfSome old (λ steps. MayRemove n r steps name) → Sound n r old → Sound n r new
 remove_keeps n r old new name done e may = sound_call n r old new (Remove name done) e may
 
 pub sync_keeps : (n : ℕ) (r : Request) (old new : Option (List Step)) (done : Result Unit Stop) → new ≡ added old (Sync done) → Sound n r old → Sound n r new
@@ -164,7 +182,8 @@ ends_one old new step e = if_added (λ steps. Unit {0}) (λ steps. EndsWith step
 pub ends_step : (last steps : List Step) (step : Step) → EndsWith steps last → EndsWith (steps ++ step ∷ []) (last ++ step ∷ [])
 ends_step last steps step h = (h.0, ap (λ (s : List Step). s ++ step ∷ []) h.1 ∙ append_assoc h.0 last (step ∷ []))
 
-pub ends_more : (last : List Step) (old new : Option (List Step)) (step : Step) → new ≡ added old step → IfSome old (λ steps. EndsWith steps last) → IfSome new (λ steps. EndsWith steps (last ++ step ∷ []))
+pub ends_more : (last : List Step) (old new : Option (List Step)) (step : Step) → new ≡ added old step → IfSome old (λ steps. EndsWith steps last)
+    → IfSome new (λ steps. EndsWith steps (last ++ step ∷ []))
 ends_more last old new step e h = if_added (λ steps. EndsWith steps last) (λ steps. EndsWith steps (last ++ step ∷ [])) old new step (λ steps p. ends_step last steps step p) e h
 
 -- the last two calls
@@ -172,8 +191,10 @@ pub ends_two : (old mid new : Option (List Step)) (one two : Step) → mid ≡ a
 ends_two old mid new one two e f = ends_more (one ∷ []) mid new two f (ends_one old mid one e)
 
 -- the lock stays seen as further calls come
-pub locked_more : (n : ℕ) (r : Request) (last : List Step) (old new : Option (List Step)) (step : Step) → new ≡ added old step → IfSome old (λ steps. LockedThen n r steps last) → IfSome new (λ steps. LockedThen n r steps (last ++ step ∷ []))
-locked_more n r last old new step e h = if_added (λ steps. LockedThen n r steps last) (λ steps. LockedThen n r steps (last ++ step ∷ [])) old new step (λ steps p. (p.0, p.1, p.2, ends_step (Look r.lock (Ok p.0) ∷ Look r.beside (Ok p.1) ∷ last) steps step p.3)) e h
+pub locked_more : (n : ℕ) (r : Request) (last : List Step) (old new : Option (List Step)) (step : Step) → new ≡ added old step
+    → IfSome old (λ steps. LockedThen n r steps last) → IfSome new (λ steps. LockedThen n r steps (last ++ step ∷ []))
+locked_more n r last old new step e h = if_added (λ steps. LockedThen n r steps last) (λ steps. LockedThen n r steps (last ++ step ∷ [])) old new step
+    (λ steps p. (p.0, p.1, p.2, ends_step (Look r.lock (Ok p.0) ∷ Look r.beside (Ok p.1) ∷ last) steps step p.3)) e h
 
 -- no call, one call, and the calls of two parts
 pub on_none : (old : Option (List Step)) → Onward old old

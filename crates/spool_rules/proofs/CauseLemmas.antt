@@ -38,8 +38,11 @@ clears_minds op.Erase r name c = absurd c
 clears_minds op.Discard r name c = c
 
 -- it saw what is another's
-pub saw_others : (n : ℕ) (r : Request) (old new : Option (List Step)) (name : List ℕ) (seen : Seen) → Minds r.operation r name → new ≡ added old (Look name (Ok seen)) → is_free n seen ≡ false → IfSome new (λ steps. Stopped n r stop.Refused steps)
-saw_others n r old new name seen minds e f = weaken (λ steps. EndsWith steps (Look name (Ok seen) ∷ [])) (λ steps. Stopped n r stop.Refused steps) new (λ steps p. inr (refl, (name, seen, minds, f, p))) (ends_one old new (Look name (Ok seen)) e)
+pub saw_others : (n : ℕ) (r : Request) (old new : Option (List Step)) (name : List ℕ) (seen : Seen) → Minds r.operation r name
+    → new ≡ added old (Look name (Ok seen)) → is_free n seen ≡ false → IfSome new (λ steps. Stopped n r stop.Refused steps)
+saw_others n r old new name seen minds e f =
+    weaken (λ steps. EndsWith steps (Look name (Ok seen) ∷ [])) (λ steps. Stopped n r stop.Refused steps) new
+    (λ steps p. inr (refl, (name, seen, minds, f, p))) (ends_one old new (Look name (Ok seen)) e)
 
 -- what isn't free: it is something, and not the caller's
 pub not_free : (n : ℕ) (seen : Seen) → (seen ≡ Nothing → ⊥) → is_own n seen ≡ false → is_free n seen ≡ false
@@ -56,36 +59,48 @@ removed_stopped n r old new name (Ok u) e = tt
 removed_stopped n r old new name (Err why) e = failed n r old new (Remove name (Err why)) why e refl
 
 -- an operation ends by that
-pub stopped_at : (operation : Operation) (n : ℕ) (r : Request) (why : Stop) (told : Option (List Step)) → IfSome told (λ steps. Stopped n r why steps) → IfSome told (λ steps. StoppedAt operation n r why steps)
+pub stopped_at : (operation : Operation) (n : ℕ) (r : Request) (why : Stop) (told : Option (List Step)) → IfSome told (λ steps. Stopped n r why steps)
+    → IfSome told (λ steps. StoppedAt operation n r why steps)
 stopped_at operation n r why told h = weaken (λ steps. Stopped n r why steps) (λ steps. StoppedAt operation n r why steps) told (λ steps p. inl p) h
 
-pub ends_by : (operation : Operation) (n : ℕ) (r : Request) (result : Result Bool Stop) (told : Option (List Step)) → r.operation ≡ operation → Ended operation n r result told → Ended r.operation n r result told
+pub ends_by : (operation : Operation) (n : ℕ) (r : Request) (result : Result Bool Stop) (told : Option (List Step)) → r.operation ≡ operation
+    → Ended operation n r result told → Ended r.operation n r result told
 ends_by operation n r result told e h = subst (λ (o : Operation). Ended o n r result told) (sym e) h
 
-pub call_ends : (operation : Operation) (n : ℕ) (r : Request) (old new : Option (List Step)) (step : Step) (why : Stop) → new ≡ added old step → fault step ≡ Some why → Ended operation n r (Err why) new
+pub call_ends : (operation : Operation) (n : ℕ) (r : Request) (old new : Option (List Step)) (step : Step) (why : Stop) → new ≡ added old step
+    → fault step ≡ Some why → Ended operation n r (Err why) new
 call_ends operation n r old new step why e f = stopped_at operation n r why new (failed n r old new step why e f)
 
 -- what an operation clears away may go
-pub clears_by : (operation : Operation) (n : ℕ) (r : Request) (told : Option (List Step)) → r.operation ≡ operation → IfSome told (λ steps. ClearsAfter operation n r steps) → IfSome told (λ steps. ClearsAfter r.operation n r steps)
+pub clears_by : (operation : Operation) (n : ℕ) (r : Request) (told : Option (List Step)) → r.operation ≡ operation
+    → IfSome told (λ steps. ClearsAfter operation n r steps) → IfSome told (λ steps. ClearsAfter r.operation n r steps)
 clears_by operation n r told e h = subst (λ (o : Operation). IfSome told (λ steps. ClearsAfter o n r steps)) (sym e) h
 
-pub not_free_clears : (n : ℕ) (r : Request) (old new : Option (List Step)) → r.operation ≡ op.Lock → new ≡ added old (Link r.beside r.lock (Ok false)) → IfSome new (λ steps. ClearsAfter r.operation n r steps)
-not_free_clears n r old new locks e = clears_by op.Lock n r new locks (weaken (λ steps. EndsWith steps (Link r.beside r.lock (Ok false) ∷ [])) (λ steps. ClearsAfter op.Lock n r steps) new (λ steps p. inr p) (ends_one old new (Link r.beside r.lock (Ok false)) e))
+pub not_free_clears : (n : ℕ) (r : Request) (old new : Option (List Step)) → r.operation ≡ op.Lock → new ≡ added old (Link r.beside r.lock (Ok false))
+    → IfSome new (λ steps. ClearsAfter r.operation n r steps)
+not_free_clears n r old new locks e = clears_by op.Lock n r new locks
+    (weaken (λ steps. EndsWith steps (Link r.beside r.lock (Ok false) ∷ [])) (λ steps. ClearsAfter op.Lock n r steps) new (λ steps p. inr p) (ends_one old new (Link r.beside r.lock (Ok false)) e))
 
-pub not_locked_clears : (n : ℕ) (r : Request) (told : Option (List Step)) → r.operation ≡ op.Lock → IfSome told (λ steps. NotLocked n r steps) → IfSome told (λ steps. ClearsAfter r.operation n r steps)
+pub not_locked_clears : (n : ℕ) (r : Request) (told : Option (List Step)) → r.operation ≡ op.Lock → IfSome told (λ steps. NotLocked n r steps)
+    → IfSome told (λ steps. ClearsAfter r.operation n r steps)
 not_locked_clears n r told locks h = clears_by op.Lock n r told locks (weaken (λ steps. NotLocked n r steps) (λ steps. ClearsAfter op.Lock n r steps) told (λ steps p. inl p) h)
 
 -- the lock was wanted
-pub wants_lock : (operation : Operation) (n : ℕ) (r : Request) (told : Option (List Step)) → IfSome told (λ steps. WantsLock operation n r steps) → IfSome told (λ steps. StoppedAt operation n r stop.Refused steps)
+pub wants_lock : (operation : Operation) (n : ℕ) (r : Request) (told : Option (List Step)) → IfSome told (λ steps. WantsLock operation n r steps)
+    → IfSome told (λ steps. StoppedAt operation n r stop.Refused steps)
 wants_lock operation n r told h = weaken (λ steps. WantsLock operation n r steps) (λ steps. StoppedAt operation n r stop.Refused steps) told (λ steps p. inr (refl, p)) h
 
 -- a lock stands
 pub lock_stands : (n : ℕ) (r : Request) (told : Option (List Step)) → IfSome told OnlyLooked → IfSome told (λ steps. LockedThen n r steps []) → Ended op.Lock n r (Ok false) told
-lock_stands n r told looked h = weaken (λ steps. OnlyLooked steps × LockedThen n r steps []) (λ steps. StandsAt op.Lock n r steps) told (λ steps p. inl p) (both OnlyLooked (λ steps. LockedThen n r steps []) told looked h)
+lock_stands n r told looked h = weaken (λ steps. OnlyLooked steps × LockedThen n r steps []) (λ steps. StandsAt op.Lock n r steps) told
+    (λ steps p. inl p) (both OnlyLooked (λ steps. LockedThen n r steps []) told looked h)
 
-pub other_stands : (n : ℕ) (r : Request) (old mid new : Option (List Step)) → mid ≡ added old (Link r.beside r.lock (Ok false)) → Onward mid new → IfSome new (λ steps. GoneThen r.beside [] steps) → Ended op.Lock n r (Ok false) new
-other_stands n r old mid new e o gone = weaken (λ steps. Once (λ front. EndsWith front (Link r.beside r.lock (Ok false) ∷ [])) steps × GoneThen r.beside [] steps) (λ steps. StandsAt op.Lock n r steps) new (λ steps p. inr p)
-    (both (λ steps. Once (λ front. EndsWith front (Link r.beside r.lock (Ok false) ∷ [])) steps) (λ steps. GoneThen r.beside [] steps) new (once_on (λ steps. EndsWith steps (Link r.beside r.lock (Ok false) ∷ [])) mid new (ends_one old mid (Link r.beside r.lock (Ok false)) e) o) gone)
+pub other_stands : (n : ℕ) (r : Request) (old mid new : Option (List Step)) → mid ≡ added old (Link r.beside r.lock (Ok false)) → Onward mid new
+    → IfSome new (λ steps. GoneThen r.beside [] steps) → Ended op.Lock n r (Ok false) new
+other_stands n r old mid new e o gone = weaken
+    (λ steps. Once (λ front. EndsWith front (Link r.beside r.lock (Ok false) ∷ [])) steps × GoneThen r.beside [] steps) (λ steps. StandsAt op.Lock n r steps) new (λ steps p. inr p)
+    (both (λ steps. Once (λ front. EndsWith front (Link r.beside r.lock (Ok false) ∷ [])) steps) (λ steps. GoneThen r.beside [] steps) new
+    (once_on (λ steps. EndsWith steps (Link r.beside r.lock (Ok false) ∷ [])) mid new (ends_one old mid (Link r.beside r.lock (Ok false)) e) o) gone)
 
 -- the status tells it
 stop_explains : (n : ℕ) (r : Request) (why : Stop) (steps : List Step) → StoppedAt r.operation n r why steps → Explains n r (status_of (Err why)) steps
@@ -115,7 +130,8 @@ users_explained n r why told h = weaken (λ steps. Failed why steps) (λ steps. 
 first_foreign : (n : ℕ) (r : Request) (steps : List Step) (list : List ℕ) → is_callers list n r ≡ false → steps ≡ [] → IsForeign n r (steps ++ Users (Ok list) ∷ [])
 first_foreign n r steps list is e = (list, is, ap (λ (s : List Step). s ++ Users (Ok list) ∷ []) e)
 
-pub users_foreign : (n : ℕ) (r : Request) (old new : Option (List Step)) (list : List ℕ) → IsFresh old → new ≡ added old (Users (Ok list)) → is_callers list n r ≡ false → IfSome new (λ steps. IsForeign n r steps)
+pub users_foreign : (n : ℕ) (r : Request) (old new : Option (List Step)) (list : List ℕ) → IsFresh old → new ≡ added old (Users (Ok list))
+    → is_callers list n r ≡ false → IfSome new (λ steps. IsForeign n r steps)
 users_foreign n r old new list fresh e is = if_added (λ steps. steps ≡ []) (λ steps. IsForeign n r steps) old new (Users (Ok list)) (λ steps p. first_foreign n r steps list is p) e fresh
 
 -- nothing was called for want of memory

@@ -45,10 +45,16 @@ not_his n list name other line e isnt m own =
 
 -- the mailbox of another user is none of the caller's names
 no_name : (n : ℕ) (r : Request) (list name line : List ℕ) → is_callers list n r ≡ true → entry_of list name ≡ Some line → has_number n (Some line) ≡ false → IsNameOf r name → ⊥
-no_name n r list name line is e isnt (inl m) = not_his n list name r.mailbox line e isnt m (part_one (has_number n (entry_of list r.mailbox)) (is_none (entry_of list r.lock)) (is_none (entry_of list r.beside)) (is_none (entry_of list r.staged)) is)
-no_name n r list name line is e isnt (inr (inl m)) = no_entry list name r.lock line e m (part_two (has_number n (entry_of list r.mailbox)) (is_none (entry_of list r.lock)) (is_none (entry_of list r.beside)) (is_none (entry_of list r.staged)) is)
-no_name n r list name line is e isnt (inr (inr (inl m))) = no_entry list name r.beside line e m (part_three (has_number n (entry_of list r.mailbox)) (is_none (entry_of list r.lock)) (is_none (entry_of list r.beside)) (is_none (entry_of list r.staged)) is)
-no_name n r list name line is e isnt (inr (inr (inr m))) = no_entry list name r.staged line e m (and_right (has_number n (entry_of list r.mailbox) && is_none (entry_of list r.lock) && is_none (entry_of list r.beside)) (is_none (entry_of list r.staged)) is)
+no_name n r list name line is e isnt (inl m) =
+    not_his n list name r.mailbox line e isnt m
+    (part_one (has_number n (entry_of list r.mailbox)) (is_none (entry_of list r.lock)) (is_none (entry_of list r.beside)) (is_none (entry_of list r.staged)) is)
+no_name n r list name line is e isnt (inr (inl m)) =
+    no_entry list name r.lock line e m (part_two (has_number n (entry_of list r.mailbox)) (is_none (entry_of list r.lock)) (is_none (entry_of list r.beside)) (is_none (entry_of list r.staged)) is)
+no_name n r list name line is e isnt (inr (inr (inl m))) =
+    no_entry list name r.beside line e m (part_three (has_number n (entry_of list r.mailbox)) (is_none (entry_of list r.lock)) (is_none (entry_of list r.beside)) (is_none (entry_of list r.staged)) is)
+no_name n r list name line is e isnt (inr (inr (inr m))) =
+    no_entry list name r.staged line e m (and_right
+    (has_number n (entry_of list r.mailbox) && is_none (entry_of list r.lock) && is_none (entry_of list r.beside)) (is_none (entry_of list r.staged)) is)
 
 -- what is cleared away has one of the names
 pub cleared_name : (operation : Operation) (r : Request) (name : List ℕ) → Clears operation r name → IsNameOf r name
@@ -80,7 +86,8 @@ own_name n r before name (Remove other done) a c = subst (λ (x : List ℕ). IsN
 own_name n r before name (Sync done) a c = absurd c
 
 -- a call that may come, behind the list of users, isn't about the name of another
-spared : (n : ℕ) (r : Request) (list name line : List ℕ) (tail : List Step) (step : Step) → entry_of list name ≡ Some line → has_number n (Some line) ≡ false → MayCome n r (Users (Ok list) ∷ tail) step → Concerns name step → ⊥
+spared : (n : ℕ) (r : Request) (list name line : List ℕ) (tail : List Step) (step : Step) → entry_of list name ≡ Some line
+    → has_number n (Some line) ≡ false → MayCome n r (Users (Ok list) ∷ tail) step → Concerns name step → ⊥
 spared n r list name line tail (Users other) e isnt may c = c
 spared n r list name line tail (Hold a b) e isnt may c = no_name n r list name line may.0 e isnt (inr (inr (inl (c ∙ may.2))))
 spared n r list name line tail (Look a b) e isnt may c = no_name n r list name line may.0 e isnt (own_name n r (Users (Ok list) ∷ tail) name (Look a b) may.2 c)
@@ -91,7 +98,8 @@ spared n r list name line tail (Rename a b d) e isnt may c = no_name n r list na
 spared n r list name line tail (Remove a d) e isnt may c = no_name n r list name line may.0 e isnt (own_name n r (Users (Ok list) ∷ tail) name (Remove a d) may.2 c)
 spared n r list name line tail (Sync d) e isnt may c = c
 
-all_spared : (n : ℕ) (r : Request) (list name line : List ℕ) (tail steps : List Step) → entry_of list name ≡ Some line → has_number n (Some line) ≡ false → LawfulAfter n r (Users (Ok list) ∷ tail) steps → Spares name steps
+all_spared : (n : ℕ) (r : Request) (list name line : List ℕ) (tail steps : List Step) → entry_of list name ≡ Some line
+    → has_number n (Some line) ≡ false → LawfulAfter n r (Users (Ok list) ∷ tail) steps → Spares name steps
 all_spared n r list name line tail [] e isnt h = tt
 all_spared n r list name line tail (step ∷ steps) e isnt h = (λ c. spared n r list name line tail step e isnt h.0 c, all_spared n r list name line (tail ++ step ∷ []) steps e isnt h.1)
 

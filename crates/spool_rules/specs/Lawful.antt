@@ -116,7 +116,7 @@ KnowsCaller n r steps = ⊥
 abbrev pub IsKnown : ℕ → Request → List Step → Type 0
 IsKnown n r steps = (list : List ℕ) × (is_callers list n r ≡ true) × (steps ≡ Users (Ok list) ∷ [])
 
--- the second call took hold of the lock's other name, so that no other run has it
+-- the second call took hold of the lock's other name, and was answered that it has it
 abbrev pub HasHold : Request → List Step → Type 0
 HasHold r (first ∷ Hold name (Ok done) ∷ steps) = name ≡ r.beside
 HasHold r steps = ⊥
@@ -136,6 +136,6 @@ LawfulAfter n r before (step ∷ steps) = MayCome n r before step × LawfulAfter
 abbrev pub IsLawful : ℕ → Request → List Step → Type 0
 IsLawful n r steps = LawfulAfter n r [] steps
 
--- the calls so far, while they are told, are lawful, the names are the caller's, and no other run has the lock's other name
+-- the calls so far, while they are told, are lawful, the names are the caller's, and a hold of the lock's other name was answered
 abbrev pub Sound : ℕ → Request → Option (List Step) → Type 0
 Sound n r told = IfSome told (λ steps. IsLawful n r steps × KnowsCaller n r steps × HasHold r steps)

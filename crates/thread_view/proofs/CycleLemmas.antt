@@ -83,7 +83,8 @@ module _ (before parents : List ℕ) (cut : AreCut before parents) (path : ℕ �
       go (inr some) (inl same) rec =
           let long = ap length (paths.each k low high) ∙ length-append (path (slice_index parents k)) (k ∷ []) in
           let up = rec (omega arith) (omega arith) (array.within k high) in
-          let at : above (slice_index before) (suc up.0) k ≡ above (slice_index before) up.0 (slice_index parents k) = above-suc (slice_index before) up.0 k ∙ ap (above (slice_index before) up.0) (sym same) in
+          let at : above (slice_index before) (suc up.0) k ≡ above (slice_index before) up.0 (slice_index parents k) =
+          above-suc (slice_index before) up.0 k ∙ ap (above (slice_index before) up.0) (sym same) in
           (suc up.0, subst (λ (x : ℕ). 1 ≤ x) (sym at) up.1, ap (slice_index parents) at ∙ up.2)
 
   -- a message that keeps its parent loses none
@@ -106,7 +107,8 @@ module _ (before parents : List ℕ) (cut : AreCut before parents) (path : ℕ �
       go (inl same_top) = none_above (sym same_top ∙ up.2)
       go (inr cut_top) =
           let split : up.0 * suc loses.0 ≡ up.0 + up.0 * loses.0 = grind arith in
-          let back : above (slice_index before) (up.0 * loses.0) top ≡ k = sym (above-add (slice_index before) up.0 (up.0 * loses.0) k) ∙ ap (λ (n : ℕ). above (slice_index before) n k) (sym split) ∙ above-turns (slice_index before) loses.0 k loses.1 up.0 in
+          let back : above (slice_index before) (up.0 * loses.0) top ≡ k =
+          sym (above-add (slice_index before) up.0 (up.0 * loses.0) k) ∙ ap (λ (n : ℕ). above (slice_index before) n k) (sym split) ∙ above-turns (slice_index before) loses.0 k loses.1 up.0 in
           let least = cut_top.0.2 (up.0 * loses.0) in
           let low_top = loses.2 up.0 in
           let one : top ≡ k = omega arith in

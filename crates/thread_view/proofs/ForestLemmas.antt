@@ -48,7 +48,8 @@ module _ (parents : List ℕ) (array : IsParentArray parents) (path : ℕ → Li
           }
       go (inr some) (ends less z e) =
           let here : IsIn parents m = (omega arith, high) in
-          let both = same_from_push (path (slice_index parents m)) (front ++ y ∷ less) m z (sym (paths.each m here.0 high) ∙ is ∙ ap (λ (l : List ℕ). front ++ y ∷ l) e ∙ sym (append_assoc front (y ∷ less) (z ∷ []))) in
+          let both = same_from_push (path (slice_index parents m)) (front ++ y ∷ less) m z
+          (sym (paths.each m here.0 high) ∙ is ∙ ap (λ (l : List ℕ). front ++ y ∷ l) e ∙ sym (append_assoc front (y ∷ less) (z ∷ []))) in
           let l = long m here in
           rec front y less (omega arith) (array.within m high) both.0
 

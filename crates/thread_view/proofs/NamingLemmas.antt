@@ -32,7 +32,8 @@ same-symm a b =
     (cases_Bool (bytes_eq a b))
 
 -- what is found once an id is put in
-pub id-put : (old new : Ids) (key : Bor (List ℕ)) (v : ℕ) (id : List ℕ) → Updates (λ x y. slice_cmp nat_cmp x.now y.now) old new key (Some v) → id_in new id ≡ (if bytes_eq key.now id then v else id_in old id)
+pub id-put : (old new : Ids) (key : Bor (List ℕ)) (v : ℕ) (id : List ℕ) → Updates (λ x y. slice_cmp nat_cmp x.now y.now) old new key (Some v)
+    → id_in new id ≡ (if bytes_eq key.now id then v else id_in old id)
 id-put old new key v id updates = ap (λ o. unwrap_or o 0) (btree_map_updates_str key.now old new (Some v) updates id) ∙ go (bytes_eq key.now id)
   where
     go : (b : Bool) → unwrap_or (if b then Some v else get_by (λ k. slice_cmp nat_cmp id k.now) old) 0 ≡ (if b then v else id_in old id)
@@ -43,31 +44,37 @@ id-put old new key v id updates = ap (λ o. unwrap_or o 0) (btree_map_updates_st
 abbrev pub named_from : List Row → ℕ → List ℕ → ℕ
 named_from rows k id = option_map_or (λ p. p + k + 1) (position (λ row. bytes_eq row.texts.own_id id) (drop k rows)) 0
 
-place-more : (test : Row → Bool) (k : ℕ) (row : Row) (rest : List Row) → option_map_or (λ p. p + k + 1) (position test (row ∷ rest)) 0 ≡ (if test row then k + 1 else option_map_or (λ p. p + (k + 1) + 1) (position test rest) 0)
+place-more : (test : Row → Bool) (k : ℕ) (row : Row) (rest : List Row)
+    → option_map_or (λ p. p + k + 1) (position test (row ∷ rest)) 0 ≡ (if test row then k + 1 else option_map_or (λ p. p + (k + 1) + 1) (position test rest) 0)
 place-more test k row rest = go (test row) refl
   where
     place : Bool → ℕ
     place b = if not b then 1 + position_or_len test rest else 0
 
     found : (b : Bool) → ℕ
-    found b = option_map_or (λ p. p + k + 1) (if nat_lt (if not b then 1 + position_or_len test rest else 0) (length (row ∷ rest)) then Some (if not b then 1 + position_or_len test rest else 0) else None) 0
+    found b = option_map_or (λ p. p + k + 1)
+        (if nat_lt (if not b then 1 + position_or_len test rest else 0) (length (row ∷ rest)) then Some (if not b then 1 + position_or_len test rest else 0) else None) 0
 
     later : (b : Bool) → nat_lt (position_or_len test rest) (length rest) ≡ b
         → option_map_or (λ p. p + k + 1) (if nat_lt (1 + position_or_len test rest) (length (row ∷ rest)) then Some (1 + position_or_len test rest) else None) 0
         ≡ option_map_or (λ p. p + (k + 1) + 1) (if b then Some (position_or_len test rest) else None) 0
     later true t =
         let lt : position_or_len test rest < length rest = ltb-true _ _ t in
-        ap (λ (b : Bool). option_map_or (λ p. p + k + 1) (if b then Some (1 + position_or_len test rest) else None) 0) (lt-ltb _ _ (let l : 1 + position_or_len test rest < length (row ∷ rest) = omega arith in l))
+        ap (λ (b : Bool). option_map_or (λ p. p + k + 1) (if b then Some (1 + position_or_len test rest) else None) 0)
+        (lt-ltb _ _ (let l : 1 + position_or_len test rest < length (row ∷ rest) = omega arith in l))
         ∙ (let e : 1 + position_or_len test rest + k + 1 ≡ position_or_len test rest + (k + 1) + 1 = omega arith in e)
     later false f =
         let ge : length rest ≤ position_or_len test rest = ltb-false _ _ f in
-        ap (λ (b : Bool). option_map_or (λ p. p + k + 1) (if b then Some (1 + position_or_len test rest) else None) 0) (le-ltb _ _ (let l : length (row ∷ rest) ≤ 1 + position_or_len test rest = omega arith in l))
+        ap (λ (b : Bool). option_map_or (λ p. p + k + 1) (if b then Some (1 + position_or_len test rest) else None) 0)
+        (le-ltb _ _ (let l : length (row ∷ rest) ≤ 1 + position_or_len test rest = omega arith in l))
 
     go : (b : Bool) → test row ≡ b → option_map_or (λ p. p + k + 1) (position test (row ∷ rest)) 0 ≡ (if b then k + 1 else option_map_or (λ p. p + (k + 1) + 1) (position test rest) 0)
-    go true t = ap found t ∙ ap (λ (b : Bool). option_map_or (λ p. p + k + 1) (if b then Some 0 else None) 0) (lt-ltb 0 (length (row ∷ rest)) (omega arith)) ∙ (let e : 0 + k + 1 ≡ k + 1 = omega arith in e)
+    go true t = ap found t ∙ ap (λ (b : Bool). option_map_or (λ p. p + k + 1) (if b then Some 0 else None) 0)
+        (lt-ltb 0 (length (row ∷ rest)) (omega arith)) ∙ (let e : 0 + k + 1 ≡ k + 1 = omega arith in e)
     go false f = ap found f ∙ later (nat_lt (position_or_len test rest) (length rest)) refl
 
-pub named-step : (rows : List Row) (k : ℕ) (row : Row) (id : List ℕ) → k < length rows → row ≡ get_or rows k row → named_from rows k id ≡ (if bytes_eq row.texts.own_id id then k + 1 else named_from rows (k + 1) id)
+pub named-step : (rows : List Row) (k : ℕ) (row : Row) (id : List ℕ) → k < length rows → row ≡ get_or rows k row
+    → named_from rows k id ≡ (if bytes_eq row.texts.own_id id then k + 1 else named_from rows (k + 1) id)
 named-step rows k row id lt read =
     ap (λ l. option_map_or (λ p. p + k + 1) (position (λ r. bytes_eq r.texts.own_id id) l) 0) (drop_more rows k row lt ∙ ap (λ r. r ∷ drop (k + 1) rows) (sym read))
     ∙ place-more (λ r. bytes_eq r.texts.own_id id) k row (drop (k + 1) rows)

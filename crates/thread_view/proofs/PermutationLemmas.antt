@@ -80,9 +80,11 @@ has-range n q on =
 pub range_apart : (n : ℕ) → IsDistinct eqb (range_with_len 1 n)
 range_apart n =
     IsDistinct-from_apart eqb (range_with_len 1 n)
-    (λ i j d lt high. ne_eqb _ _ (λ e. let last : j < n = omega (arith, length-range_with_len 1 n) in let one = get_or-range_with_len 1 n i d (omega arith) in let two = get_or-range_with_len 1 n j d last in omega arith))
+    (λ i j d lt high. ne_eqb _ _ (λ e. let last : j < n = omega (arith, length-range_with_len 1 n) in let one =
+    get_or-range_with_len 1 n i d (omega arith) in let two = get_or-range_with_len 1 n j d last in omega arith))
 
-pub each_once : (n : ℕ) (ys : List ℕ) → IsDistinct eqb ys → ((i : ℕ) → i < length ys → (1 ≤ slice_index ys i) × (slice_index ys i ≤ n)) → ((q : ℕ) → 1 ≤ q → q ≤ n → has ys q ≡ true) → IsPermutation (range_with_len 1 n) ys
+pub each_once : (n : ℕ) (ys : List ℕ) → IsDistinct eqb ys → ((i : ℕ) → i < length ys → (1 ≤ slice_index ys i) × (slice_index ys i ≤ n))
+    → ((q : ℕ) → 1 ≤ q → q ≤ n → has ys q ≡ true) → IsPermutation (range_with_len 1 n) ys
 each_once n ys apart within all =
     same_numbers (range_with_len 1 n) ys (range_apart n) apart
     (λ q on. let w = has-range n q on in all q w.0 w.1)

@@ -29,7 +29,8 @@ module _ (path : ℕ → List ℕ) (order : List ℕ) (ascend : IsStrictlySorted
       turned [] e b = before-itself (path (slice_index order i)) (subst (λ (l : List ℕ). Before l (path (slice_index order i))) (e ∙ append-nil (path (slice_index order i))) b)
       turned (y ∷ rest) e b =
           before-itself (path (slice_index order i))
-          (before-then (path (slice_index order i)) (path (slice_index order j)) (path (slice_index order i)) (subst (Before (path (slice_index order i))) (sym e) (before-longer (path (slice_index order i)) y rest)) b)
+          (before-then (path (slice_index order i)) (path (slice_index order j)) (path (slice_index order i))
+          (subst (Before (path (slice_index order i))) (sym e) (before-longer (path (slice_index order i)) y rest)) b)
 
   pub together : (i k j : ℕ) → i ≤ k → k ≤ j → j < length order → IsFrom path (slice_index order i) (slice_index order j) → IsFrom path (slice_index order i) (slice_index order k)
   together i k j low up high from =
@@ -40,7 +41,8 @@ module _ (path : ℕ → List ℕ) (order : List ℕ) (ascend : IsStrictlySorted
           | inr m ↦
               let after = in_order i k (omega arith) (omega arith) in
               let before = in_order k j (omega arith) high in
-              let w = between (path (slice_index order i)) [] from.0 (path (slice_index order k)) (subst (λ (l : List ℕ). Before l (path (slice_index order k))) (sym (append-nil (path (slice_index order i)))) after) (subst (Before (path (slice_index order k))) from.1 before) in
+              let w = between (path (slice_index order i)) [] from.0 (path (slice_index order k))
+              (subst (λ (l : List ℕ). Before l (path (slice_index order k))) (sym (append-nil (path (slice_index order i)))) after) (subst (Before (path (slice_index order k))) from.1 before) in
               (w.0, w.1)
         ]
       ]

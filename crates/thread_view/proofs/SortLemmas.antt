@@ -133,18 +133,25 @@ module _ {K V : Type 0} (view : K → V) (compare : K → K → Ordering) (by_vi
 
   pub in_order : (n : ℕ) (pairs : List (K × ℕ)) (numbers : List ℕ) → map seen pairs ≡ map own (range_with_len 1 n) → AreSortedNumbers compare pairs numbers → IsInOrder by_view key n numbers
   in_order n pairs numbers are sorts =
-      let moved : IsPermutation (map own (range_with_len 1 n)) (map seen sorts.sorted) = subst (λ l. IsPermutation l (map seen sorts.sorted)) are (IsPermutation-map seen pairs sorts.sorted sorts.moved) in
+      let moved : IsPermutation (map own (range_with_len 1 n)) (map seen sorts.sorted) =
+      subst (λ l. IsPermutation l (map seen sorts.sorted)) are (IsPermutation-map seen pairs sorts.sorted sorts.moved) in
       let is : map (λ (q : V × ℕ). q.1) (map seen sorts.sorted) ≡ numbers = numbers-seen sorts.sorted ∙ sym sorts.are in
-      let once : IsPermutation (range_with_len 1 n) numbers = subst (IsPermutation (range_with_len 1 n)) is (subst (λ l. IsPermutation l (map (λ (q : V × ℕ). q.1) (map seen sorts.sorted))) (numbers-own (range_with_len 1 n)) (IsPermutation-map (λ (q : V × ℕ). q.1) (map own (range_with_len 1 n)) (map seen sorts.sorted) moved)) in
+      let once : IsPermutation (range_with_len 1 n) numbers =
+      subst (IsPermutation (range_with_len 1 n)) is
+      (subst (λ l. IsPermutation l (map (λ (q : V × ℕ). q.1) (map seen sorts.sorted))) (numbers-own (range_with_len 1 n))
+      (IsPermutation-map (λ (q : V × ℕ). q.1) (map own (range_with_len 1 n)) (map seen sorts.sorted) moved)) in
       let apart : IsDistinct eqb numbers = IsDistinct-IsPermutation eqb flips (range_with_len 1 n) numbers once (range_apart n) in
-      let back : map own numbers ≡ map seen sorts.sorted = ap (map own) (sym is) ∙ own-back (map seen sorts.sorted) (All-permutation (λ (q : V × ℕ). q ≡ own q.1) (map own (range_with_len 1 n)) (map seen sorts.sorted) moved (all-own (range_with_len 1 n))) in
+      let back : map own numbers ≡ map seen sorts.sorted =
+      ap (map own) (sym is) ∙ own-back (map seen sorts.sorted)
+      (All-permutation (λ (q : V × ℕ). q ≡ own q.1) (map own (range_with_len 1 n)) (map seen sorts.sorted) moved (all-own (range_with_len 1 n))) in
       record {
         once = once;
         ascend = subst (IsStrictlySortedBy (by_key by_view)) (sym back) (ascending-seen sorts.sorted (ascending compare total sorts.sorted sorts.ascend (subst (IsDistinct eqb) sorts.are apart)));
       }
 
 -- pairs that are sorted by their own keys
-pub in_order-own : {K : Type 0} (compare : K → K → Ordering) (total : IsTotalOrder compare) (key : ℕ → K) (n m : ℕ) (pairs : List (K × ℕ)) (numbers : List ℕ) → m ≡ n → pairs ≡ map (λ k. (key k, k)) (range_with_len 1 m) → AreSortedNumbers compare pairs numbers → IsInOrder compare key n numbers
+pub in_order-own : {K : Type 0} (compare : K → K → Ordering) (total : IsTotalOrder compare) (key : ℕ → K) (n m : ℕ) (pairs : List (K × ℕ))
+    (numbers : List ℕ) → m ≡ n → pairs ≡ map (λ k. (key k, k)) (range_with_len 1 m) → AreSortedNumbers compare pairs numbers → IsInOrder compare key n numbers
 in_order-own {K} compare total key n m pairs numbers all are sorts =
     in_order (λ (k : K). k) compare compare total (λ a b. refl) key n pairs numbers (same_pairs pairs ∙ are ∙ ap (λ (k : ℕ). map {B = K × ℕ} (λ (j : ℕ). (key j, j)) (range_with_len 1 k)) all) sorts
   where

@@ -41,8 +41,12 @@ threaded-from rows before parents order depth are cut array forest walk =
       paths = record {
         none = paths.none;
         each = λ k is.
-            let high : k < length parents = omega (arith, is.1, cut.size, are.size) in
-            (slice_index parents k, under-same (slice_index before) (parent_of rows) are.each k (slice_index parents k) (is_under before parents cut path paths array k is.0 high), paths.each k is.0 high);
+            let high : k < length parents = omega (arith, is.1, cut.size, are.size) in (
+              slice_index parents k,
+              under-same (slice_index before) (parent_of rows) are.each k (slice_index parents k)
+                  (is_under before parents cut path paths array k is.0 high),
+              paths.each k is.0 high,
+            );
       };
       once = subst (λ (n : ℕ). IsPermutation (range_with_len 1 n) order) size found.once;
       ascend = found.ascend;

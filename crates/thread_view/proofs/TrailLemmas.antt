@@ -49,7 +49,8 @@ module _ (trail : List ℕ) (x : ℕ) where
         | inr n ↦ front 0 (omega arith) ∙ start (omega arith)
       ]
 
-  pub trail-more : (parents : List ℕ) (done : List Bool) (k : ℕ) → IsTrail parents done trail → end_of parents trail k ≡ x → 1 ≤ x → x < length parents → is_done done x ≡ false → ((i : ℕ) → i < length trail → slice_index trail i ≢ x) → IsTrail parents done more
+  pub trail-more : (parents : List ℕ) (done : List Bool) (k : ℕ) → IsTrail parents done trail → end_of parents trail k ≡ x → 1 ≤ x
+      → x < length parents → is_done done x ≡ false → ((i : ℕ) → i < length trail → slice_index trail i ≢ x) → IsTrail parents done more
   trail-more parents done k old leads low high not_done away = record {
     within = each (λ m. (1 ≤ m) × (m < length parents)) old.within (low, high);
     undone = each (λ m. is_done done m ≡ false) old.undone not_done;
@@ -77,7 +78,8 @@ module _ (trail : List ℕ) (x : ℕ) where
   places-more places old within away i lt =
       elim (cases_eq i (length trail)) [
         | inl e ↦ ap (slice_index (set places x (length trail))) (ap (slice_index more) e ∙ last) ∙ get_or-set_same places x (length trail) 0 within ∙ sym e
-        | inr n ↦ let here : i < length trail = omega (arith, long) in ap (slice_index (set places x (length trail))) (front i here) ∙ get_or-set_other places x (slice_index trail i) (length trail) 0 (away i here) ∙ old i here
+        | inr n ↦ let here : i < length trail = omega (arith, long) in
+            ap (slice_index (set places x (length trail))) (front i here) ∙ get_or-set_other places x (slice_index trail i) (length trail) 0 (away i here) ∙ old i here
       ]
 
 on_list : (xs : List ℕ) (q : ℕ) → list_any (eqb q) xs ≡ true → (i : ℕ) × (i < length xs) × (slice_index xs i ≡ q)
@@ -139,7 +141,8 @@ module _ (parents : List ℕ) (done : List Bool) (trail : List ℕ) (x k : ℕ) 
       elim (cases_eq (length trail) 0) [
         | inl none ↦ ap (is_done now) (end-none parents trail k none ∙ sym (start (omega (arith, long trail x))) ∙ ap (slice_index (more trail x)) (sym none) ∙ last trail x) ∙ here
         | inr n ↦ let lt : length trail - 1 < length trail = omega arith in
-            ap (is_done now) (end-some parents trail k (omega arith) ∙ ap (slice_index parents) (sym (front trail x (length trail - 1) lt)) ∙ old.next (length trail - 1) (omega (arith, long trail x)) ∙ ap (slice_index (more trail x)) (omega arith) ∙ last trail x) ∙ here
+            ap (is_done now) (end-some parents trail k (omega arith) ∙ ap (slice_index parents) (sym (front trail x (length trail - 1) lt))
+            ∙ old.next (length trail - 1) (omega (arith, long trail x)) ∙ ap (slice_index (more trail x)) (omega arith) ∙ last trail x) ∙ here
       ]
 
   pub paths-more : HavePaths parents done → is_done done (end_of parents (more trail x) k) ≡ true → HavePaths parents now
@@ -191,7 +194,8 @@ module _ (parents : List ℕ) (done : List Bool) (trail : List ℕ) (start least
   pub cut-least : AreCut parents (set parents (slice_index trail least) 0)
   cut-least = record { size = length-set parents (slice_index trail least) 0; each = each_cut }
     where
-      each_cut : (m : ℕ) → 1 ≤ m → (slice_index (set parents (slice_index trail least) 0) m ≡ slice_index parents m) ⊎ (LosesParent (slice_index parents) m × (slice_index (set parents (slice_index trail least) 0) m ≡ 0))
+      each_cut : (m : ℕ) → 1 ≤ m → (slice_index (set parents (slice_index trail least) 0) m ≡ slice_index parents m)
+          ⊎ (LosesParent (slice_index parents) m × (slice_index (set parents (slice_index trail least) 0) m ≡ 0))
       each_cut m some =
           elim (cases_eq m (slice_index trail least)) [
             | inl e ↦
@@ -208,7 +212,8 @@ module _ (parents : List ℕ) (done : List Bool) (trail : List ℕ) (start least
 
   pub trail-cut : IsTrail (set parents (slice_index trail least) 0) done (take (least + 1) trail)
   trail-cut = record {
-    within = λ i lt. subst (λ (m : ℕ). (1 ≤ m) × (m < length (set parents (slice_index trail least) 0))) (sym (at i lt)) (let w = old.within i (omega (arith, short)) in (w.0, omega (arith, w.1, length-set parents (slice_index trail least) 0)));
+    within = λ i lt. subst (λ (m : ℕ). (1 ≤ m) × (m < length (set parents (slice_index trail least) 0))) (sym (at i lt))
+        (let w = old.within i (omega (arith, short)) in (w.0, omega (arith, w.1, length-set parents (slice_index trail least) 0)));
     undone = λ i lt. ap (is_done done) (at i lt) ∙ old.undone i (omega (arith, short));
     next = λ i lt. ap (slice_index (set parents (slice_index trail least) 0)) (at i (omega arith))
         ∙ get_or-set_other parents (slice_index trail least) (slice_index trail i) 0 0 (old.differ i least (omega (arith, short)) high)

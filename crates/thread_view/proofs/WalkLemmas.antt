@@ -43,7 +43,8 @@ module _ (parents : List ℕ) (array : IsParentArray parents) (path : ℕ → Li
     on.1 ∙ ap (λ (l : List ℕ). l ++ on.0) (paths.each x is.0 is.1) ∙ append_assoc (path (slice_index parents x)) (x ∷ []) on.0,
   )
 
-  pub walked-last : (k x : ℕ) → IsIn parents x → IsNextUnder parents (slice_index parents x) x 0 → IsOnPath (path k) (path x) → IsWalked parents path k x → IsWalked parents path k (slice_index parents x)
+  pub walked-last : (k x : ℕ) → IsIn parents x → IsNextUnder parents (slice_index parents x) x 0 → IsOnPath (path k) (path x)
+      → IsWalked parents path k x → IsWalked parents path k (slice_index parents x)
   walked-last k x is none on walked m in_m under = go under.0 under.1 none
     where
       front : List ℕ
@@ -188,7 +189,8 @@ module _ (path : ℕ → List ℕ) where
   all-more P [] k all one = (one, tt)
   all-more P (x ∷ xs) k all one = (all.0, all-more P xs k all.1 one)
 
-  sorted-more : (order : List ℕ) (k : ℕ) → IsStrictlySortedBy (slice_cmp nat_cmp) (map path order) → ((i : ℕ) → i < length order → Before (path (slice_index order i)) (path k)) → IsStrictlySortedBy (slice_cmp nat_cmp) (map path (order ++ k ∷ []))
+  sorted-more : (order : List ℕ) (k : ℕ) → IsStrictlySortedBy (slice_cmp nat_cmp) (map path order)
+      → ((i : ℕ) → i < length order → Before (path (slice_index order i)) (path k)) → IsStrictlySortedBy (slice_cmp nat_cmp) (map path (order ++ k ∷ []))
   unfolding IsStrictlySortedBy
   sorted-more [] k sorted ahead = (tt, tt)
   sorted-more (x ∷ xs) k sorted ahead = (
@@ -229,7 +231,8 @@ module _ (parents : List ℕ) (array : IsParentArray parents) (path : ℕ → Li
   pub first-following : (k : ℕ) → 1 ≤ length parents → IsNextUnder parents 0 0 k → IsFollowing parents path 0 k
   first-following k some under =
       elim (cases_eq k 0) [
-        | inl e ↦ subst (IsFollowing parents path 0) (sym e) (following-none parents array path paths 0 (walked-leaf parents array path paths 0 (omega arith) (subst (IsNextUnder parents 0 0) e under)))
+        | inl e ↦ subst (IsFollowing parents path 0) (sym e)
+            (following-none parents array path paths 0 (walked-leaf parents array path paths 0 (omega arith) (subst (IsNextUnder parents 0 0) e under)))
         | inr n ↦ following-child parents array path paths 0 k (omega arith) n under
       ]
 
@@ -283,7 +286,8 @@ module _ (parents : List ℕ) (array : IsParentArray parents) (path : ℕ → Li
         after some (inl n) = absurd (some n.0)
         after some (inr n) = n.1
 
-        go : (m : ℕ) → IsIn parents m → (has order m ≡ true) ⊎ ((k ≢ 0) × IsAtMost (path k) (path m)) → IsFollowing parents path k s → (has (order ++ k ∷ []) m ≡ true) ⊎ ((s ≢ 0) × IsAtMost (path s) (path m))
+        go : (m : ℕ) → IsIn parents m → (has order m ≡ true) ⊎ ((k ≢ 0) × IsAtMost (path k) (path m)) → IsFollowing parents path k s
+            → (has (order ++ k ∷ []) m ≡ true) ⊎ ((s ≢ 0) × IsAtMost (path s) (path m))
         go m is (inl on) n = inl (has-before m on)
         go m is (inr left) (inl n) = inl (has-now m (same_one m is left.1 (n.1 m is)))
         go m is (inr left) (inr n) =

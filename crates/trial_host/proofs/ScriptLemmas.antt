@@ -147,14 +147,16 @@ stays : (old new : MemHost) (e : Event) → input_left new ≡ input_left old �
 stays old new e kept quiet = let P : List ℕ → Type 0 = λ left. Step (input_left old) left e in subst P (sym kept) (quiet (input_left old))
 
 -- a call that takes no input
-pub scripted-as : (old new : MemHost) (failed : Bool) (Happened : Disk → Event → Type 0) → IsScripted old → IsAsPlanned old new failed → Calls host_world old new Happened → input_left new ≡ input_left old
+pub scripted-as : (old new : MemHost) (failed : Bool) (Happened : Disk → Event → Type 0) → IsScripted old → IsAsPlanned old new failed
+    → Calls host_world old new Happened → input_left new ≡ input_left old
     → ((d : Disk) (e : Event) → failed ≡ false → is_lost new ≡ false → Happened d e → Quiet e) → IsScripted new
 scripted-as old new failed Happened was planned calls kept quiet =
     scripted old new Happened was planned.plan (as-planned old new failed planned) calls
     (λ es told d e happened. stays old new e kept (quiet d e (unfailed old new failed es was planned told) (not-lost new es told) happened))
 
 -- a call on the disk
-pub scripted-done : (old new : MemHost) (whole : Event) (failed : Bool) (Happened : Disk → Event → Type 0) → IsScripted old → IsDoneAsPlanned old new whole (next_part old) failed → Calls host_world old new Happened
+pub scripted-done : (old new : MemHost) (whole : Event) (failed : Bool) (Happened : Disk → Event → Type 0) → IsScripted old
+    → IsDoneAsPlanned old new whole (next_part old) failed → Calls host_world old new Happened
     → input_left new ≡ input_left old → ((at d : Disk) (e : Event) → failed ≡ is_refused at whole → Happened d e → Quiet e) → IsScripted new
 scripted-done old new whole failed Happened was planned calls kept quiet =
     let at = disk (host_start old) (old.tape.trace.items ++ map Foreign (steps_before old.plan.foreign (next_call old.calls))) in
@@ -182,7 +184,8 @@ within-seen : (bytes : Option (List ℕ)) (held : Bool) → FitsLoad bytes → s
 within-seen None held fits = refl
 within-seen (Some bytes) held fits = ap (λ (b : Bool). if b then seen.Bytes (Some bytes) held else seen.TooLarge (length bytes)) (le-leb (length bytes) load_limit fits)
 
-pub loaded-quiet : (name : List ℕ) (r : Result LoadAnswer LoadError) (before now : ℕ) (d : Disk) (e : Event) → LoadCause before now r → is_failed_load r ≡ false → wants_memory r ≡ false → Loaded name r d e → Quiet e
+pub loaded-quiet : (name : List ℕ) (r : Result LoadAnswer LoadError) (before now : ℕ) (d : Disk) (e : Event) → LoadCause before now r
+    → is_failed_load r ≡ false → wants_memory r ≡ false → Loaded name r d e → Quiet e
 loaded-quiet name (Ok answer) before now d e fits ok room is =
     nothing e _ is.0 (λ text. record { alone = refl; plain = ap (λ (s : Seen). Load name s) (within-seen answer.bytes answer.held fits); input = refl; ends = refl })
 loaded-quiet name (Err (error.TooLarge n)) before now d e fits ok room is = nothing e _ is.0 (λ text. record { alone = refl; plain = refl; input = refl; ends = refl })
@@ -229,7 +232,8 @@ drop-nothing (suc n) (x ∷ l) none = absurd (cc none)
 pub unanswered : (m : MemHost) → IsScripted m → answers_left m ≡ []
 unanswered m was = drop-nothing m.used m.plan.children (ap (λ (p : Plan). p.children) was.plan)
 
-pub child-quiet : (program : List ℕ) (args : List (List ℕ)) (input : List ℕ) (r : Result ChildAnswer ChildError) (answers : List ChildAnswer) (d : Disk) (e : Event) → answers ≡ [] → IfOk r (λ a. a ≡ next_given answers)
+pub child-quiet : (program : List ℕ) (args : List (List ℕ)) (input : List ℕ) (r : Result ChildAnswer ChildError) (answers : List ChildAnswer)
+    (d : Disk) (e : Event) → answers ≡ [] → IfOk r (λ a. a ≡ next_given answers)
     → is_failed_child r ≡ false → child_wants_memory r ≡ false → ChildRan program args input r d e → Quiet e
 child-quiet program args input (Ok answer) answers d e none given ok room is =
     let silent : answer ≡ silence = given ∙ ap next_given none in
@@ -270,7 +274,8 @@ once [] left none = ap (λ (l : List ℕ). is_nothing l && true) (none refl)
 once (b ∷ bytes) left none = refl
 
 -- a filling takes the next bytes, of which there are none only at the end
-pub filled-step : (r : Result ℕ InFault) (buf old new : List ℕ) (room m : ℕ) (d : Disk) (e : Event) → is_err r ≡ false → 1 ≤ m → length buf ≡ room → IfOk r (λ n. n ≤ room) → IfOk r (λ n. take n buf ≡ take m old)
+pub filled-step : (r : Result ℕ InFault) (buf old new : List ℕ) (room m : ℕ) (d : Disk) (e : Event) → is_err r ≡ false → 1 ≤ m → length buf ≡ room
+    → IfOk r (λ n. n ≤ room) → IfOk r (λ n. take n buf ≡ take m old)
     → IfOk r (λ n. new ≡ drop n old) → Filled r buf d e → Step old new e
 filled-step (Ok n) buf old new room m d e ok some is_room within given left is =
     let inside : n ≤ length buf = omega (arith, within, is_room) in

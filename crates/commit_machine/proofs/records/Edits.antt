@@ -69,7 +69,8 @@ added (c ∷ cs) base files n h =
     let p = and_parts (not (bytes_eq n (name_of c)) || is_added c) (only_adds cs n) h in
     grown_then (files n) (after files c base n) (apply cs base (after files c base) n) (one (same_or_not n (name_of c)) p.0) (added cs base (after files c base) n p.1)
   where
-    one : ((n ≡ name_of c) × (bytes_eq n (name_of c) ≡ true)) ⊎ ((n ≢ name_of c) × (bytes_eq n (name_of c) ≡ false)) → (not (bytes_eq n (name_of c)) || is_added c) ≡ true → Grown (files n) (after files c base n)
+    one : ((n ≡ name_of c) × (bytes_eq n (name_of c) ≡ true)) ⊎ ((n ≢ name_of c) × (bytes_eq n (name_of c) ≡ false))
+        → (not (bytes_eq n (name_of c)) || is_added c) ≡ true → Grown (files n) (after files c base n)
     one (inr p) q = subst (Grown (files n)) (sym (after-other files c base n p.0)) (grown_same (files n))
     one (inl p) q =
         let adds : is_added c ≡ true = rw p.1 at q in
@@ -88,7 +89,8 @@ outcome_is true (Some old) (Some bytes) h =
     go (nat_le (length old) load_limit) w.0 is
   where
     front : (more : List ℕ) → bytes ≡ old ++ more → take (length old) old ++ drop (length old) bytes ≡ bytes
-    front more is = ap (λ (xs : List ℕ). xs ++ drop (length old) bytes) (take_all (length old) old (omega arith)) ∙ ap (λ (xs : List ℕ). old ++ drop (length old) xs) is ∙ ap (λ (xs : List ℕ). old ++ xs) (drop_at old more (length old) refl) ∙ sym is
+    front more is = ap (λ (xs : List ℕ). xs ++ drop (length old) bytes) (take_all (length old) old (omega arith))
+        ∙ ap (λ (xs : List ℕ). old ++ drop (length old) xs) is ∙ ap (λ (xs : List ℕ). old ++ xs) (drop_at old more (length old) refl) ∙ sym is
 
     go : (b : Bool) (more : List ℕ) → bytes ≡ old ++ more → file_after (Some old) (if b then Puts (Extend (length old)) (drop (length old) bytes) else Puts Replace bytes) ≡ Some bytes
     go true more is = ap Some (front more is)
@@ -99,7 +101,9 @@ module _ (changes : List Change) (base : List (List ℕ)) (files : Files) where
   applied_in [] n h = absurd h
   applied_in (m ∷ ms) n h = elim (same_or_not n m) [ inl p ↦ rw p.1 (ap (λ (z : List ℕ). outcome_of (edit_for changes base z) (files n)) (sym p.0)) | inr p ↦ later p.0 p.1 h (λ a. applied_in ms n a) ]
     where
-      later : n ≢ m → bytes_eq n m ≡ false → Mem n (m ∷ ms) → (Mem n ms → applied (map (edit_for changes base) ms) files n ≡ outcome_of (edit_for changes base n) (files n)) → applied (map (edit_for changes base) (m ∷ ms)) files n ≡ outcome_of (edit_for changes base n) (files n)
+      later : n ≢ m → bytes_eq n m ≡ false → Mem n (m ∷ ms)
+          → (Mem n ms → applied (map (edit_for changes base) ms) files n ≡ outcome_of (edit_for changes base n) (files n))
+          → applied (map (edit_for changes base) (m ∷ ms)) files n ≡ outcome_of (edit_for changes base n) (files n)
       later ne nay (inl e) more = absurd (ne e)
       later ne nay (inr a) more = rw nay (more a)
 

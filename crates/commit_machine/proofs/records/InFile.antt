@@ -87,7 +87,8 @@ pub valid-names : (r : Record) → is_valid r ≡ true → AreDistinct (names_of
 valid-names r h =
     let some = and_parts (nat_lt 0 (length r.entries)) _ h in
     let few = and_parts (nat_le (length r.entries) (most_files r.moment)) _ some.1 in
-    let lawful = and_parts (list_all (λ (e : Entry). is_lawful e.name) r.entries) (are_distinct r.entries && (list_all fits_kind r.entries && (fit_phase r.phase r.entries && fits_moment r.moment))) few.1 in
+    let lawful = and_parts (list_all (λ (e : Entry). is_lawful e.name) r.entries)
+    (are_distinct r.entries && (list_all fits_kind r.entries && (fit_phase r.phase r.entries && fits_moment r.moment))) few.1 in
     distinct-names r.entries (and_parts (are_distinct r.entries) (list_all fits_kind r.entries && (fit_phase r.phase r.entries && fits_moment r.moment)) lawful.1).0
 
 pub stands-distinct : (c : Option (List ℕ)) (r : Record) → record_in c ≡ Some r → AreDistinct (names_of r)

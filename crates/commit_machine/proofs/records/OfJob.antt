@@ -118,8 +118,10 @@ distinct_edits (e ∷ es) h =
 -- each file has one edit
 pub valid-distinct : (j : Job) → is_valid (prepare_of j) ≡ true → IsDistinct (edits_of j)
 valid-distinct j h =
-    let behind = (and_parts (list_all (λ (e : Entry). is_lawful e.name) (prepare_of j).entries) _ (and_parts (nat_le (length (prepare_of j).entries) (most_files (moment_of j))) _ (and_parts (nat_lt 0 (length (prepare_of j).entries)) _ h).1).1).1 in
-    distinct_edits (edits_of j) (and_parts (are_distinct (prepare_of j).entries) (list_all fits_kind (prepare_of j).entries && (fit_phase Prepare (prepare_of j).entries && fits_moment (moment_of j))) behind).0
+    let behind = (and_parts (list_all (λ (e : Entry). is_lawful e.name) (prepare_of j).entries) _
+    (and_parts (nat_le (length (prepare_of j).entries) (most_files (moment_of j))) _ (and_parts (nat_lt 0 (length (prepare_of j).entries)) _ h).1).1).1 in
+    distinct_edits (edits_of j) (and_parts (are_distinct (prepare_of j).entries)
+    (list_all fits_kind (prepare_of j).entries && (fit_phase Prepare (prepare_of j).entries && fits_moment (moment_of j))) behind).0
 
 -- the edits' files have lawful names, and none is a record name
 pub valid-plain : (j : Job) → IsJob j → is_valid (prepare_of j) ≡ true → (e : Edit) → Mem e (edits_of j) → (is_record_name j.actor e.name ≡ false) × (is_lawful e.name ≡ true)
@@ -138,7 +140,9 @@ pub made_first : (made : List Made) (w : Made) → Mem w made → (x : Made) × 
 made_first [] w h = absurd h
 made_first (y ∷ ys) w h = elim (same_or_not w.edit.name y.edit.name) [ inl p ↦ (y, inl refl, sym p.0, rw p.1 refl) | inr p ↦ later p (made_first ys w) h ]
   where
-    later : ((w.edit.name ≢ y.edit.name) × (bytes_eq w.edit.name y.edit.name ≡ false)) → (Mem w ys → (x : Made) × Mem x ys × (x.edit.name ≡ w.edit.name) × (made_at ys w.edit.name ≡ Some x)) → Mem w (y ∷ ys) → (x : Made) × Mem x (y ∷ ys) × (x.edit.name ≡ w.edit.name) × (made_at (y ∷ ys) w.edit.name ≡ Some x)
+    later : ((w.edit.name ≢ y.edit.name) × (bytes_eq w.edit.name y.edit.name ≡ false))
+        → (Mem w ys → (x : Made) × Mem x ys × (x.edit.name ≡ w.edit.name) × (made_at ys w.edit.name ≡ Some x)) → Mem w (y ∷ ys)
+        → (x : Made) × Mem x (y ∷ ys) × (x.edit.name ≡ w.edit.name) × (made_at (y ∷ ys) w.edit.name ≡ Some x)
     later p more (inl e) = absurd (p.0 (ap (λ (z : Made). z.edit.name) e))
     later p more (inr h) = let q = more h in (q.0, inr q.1, q.2, rw p.1 q.3)
 

@@ -52,7 +52,7 @@ release_only (Some c) n is = release_call c n is
 
 module _ (j : Job) where
   -- the front of a run, and the state after it
-  goes_front : (before rest : List Event) (s last : State) → Goes j s (own (before ++ rest)) last → (mid : State) × Goes j s (own before) mid × Goes j mid (own rest) last
+  pub goes_front : (before rest : List Event) (s last : State) → Goes j s (own (before ++ rest)) last → (mid : State) × Goes j s (own before) mid × Goes j mid (own rest) last
   goes_front [] rest s last goes = (s, inl refl, goes)
   goes_front (event.Foreign f ∷ es) rest s last goes = goes_front es rest s last goes
   goes_front (x ∷ es) rest s last goes =
@@ -89,7 +89,8 @@ module _ (j : Job) where
           let w = release_state now (right_name j.actor) is in
           let k' : Ends w.0 j (disk d es) = subst (λ (s : State). Knows j s (disk d es)) w.1 k in
           let gone : (after_reply j now (Went true) ≡ Ended end) ⊎ (refused j (after_reply j now (Went true)) ≡ Ended end) = over in
-          let over' : (Ended w.0 ≡ Ended end) ⊎ (Ended w.0 ≡ Ended end) = subst (λ (s : State). (after_reply j s (Went true) ≡ Ended end) ⊎ (refused j (after_reply j s (Went true)) ≡ Ended end)) w.1 gone in
+          let over' : (Ended w.0 ≡ Ended end) ⊎ (Ended w.0 ≡ Ended end) =
+          subst (λ (s : State). (after_reply j s (Went true) ≡ Ended end) ⊎ (refused j (after_reply j s (Went true)) ≡ Ended end)) w.1 gone in
           let same : w.0 ≡ end = elim over' [ inl e ↦ (cc) | inr e ↦ (cc) ] in
           subst (λ (a : Ending). Ends a j (disk d es)) same k'
 

@@ -49,7 +49,8 @@ pub renewed_is : {A : Type 0} (same : Option A → Option A → Bool) → ((a b 
 renewed_is same tells old new value e = elim (cases_Bool (same old new)) [ inl y ↦ rw y (sym (tells old new y) ∙ e) | inr nay ↦ rw nay refl ]
 
 module _ (j : Job) (job : IsJob j) where
-  pub own_step : (d : Disk) (files : Files) (owners : Locks) → ((n : List ℕ) → settled_files j.actor d n ≡ files n) → ((n : List ℕ) → settled_locks j.actor d n ≡ owners n) → IsSound j.actor d → (s : State) (e : Event) → IsNext (next j s) e → Agrees d e → Knows j s d → Kept j s e d files owners
+  pub own_step : (d : Disk) (files : Files) (owners : Locks) → ((n : List ℕ) → settled_files j.actor d n ≡ files n)
+      → ((n : List ℕ) → settled_locks j.actor d n ≡ owners n) → IsSound j.actor d → (s : State) (e : Event) → IsNext (next j s) e → Agrees d e → Knows j s d → Kept j s e d files owners
   own_step d files owners settles locked sound Seizing e is agrees k = Right.step_seizing j job d files owners settles locked sound is k
   own_step d files owners settles locked sound (Timing time) e is agrees k = Right.step_timing j job d files owners settles locked sound time is k
   own_step d files owners settles locked sound Looking e is agrees k = Right.step_looking j job d files owners settles locked sound is agrees k
@@ -82,7 +83,9 @@ module _ (j : Job) (job : IsJob j) where
   known_now d s now (inl p) k = subst (λ (z : State). Knows j z d) (sym p) k
   known_now d s now (inr p) k = subst (λ (z : State). Knows j z d) (sym p) (knows_refused j d s k)
 
-  pub safe : (es : List Event) (s last : State) (d : Disk) (files : Files) (owners : Locks) → ((n : List ℕ) → settled_files j.actor d n ≡ files n) → ((n : List ℕ) → settled_locks j.actor d n ≡ owners n) → IsSound j.actor d → Knows j s d → Goes j s (own es) last → Honest d es → OthersAreLawful j.actor j.token d es → Safe d files owners es last
+  pub safe : (es : List Event) (s last : State) (d : Disk) (files : Files) (owners : Locks) → ((n : List ℕ) → settled_files j.actor d n ≡ files n)
+      → ((n : List ℕ) → settled_locks j.actor d n ≡ owners n) → IsSound j.actor d → Knows j s d → Goes j s (own es) last → Honest d es
+      → OthersAreLawful j.actor j.token d es → Safe d files owners es last
   safe [] s last d files owners settles locked sound k goes honest lawful = record {
     due = record { same_files = settles; same_locks = locked; sound = sound };
     knows = known_now d s last (elim goes [ inl p ↦ inl (sym p) | inr p ↦ inr (sym p) ]) k;
@@ -98,7 +101,8 @@ module _ (j : Job) (job : IsJob j) where
       let more = safe es (after_reply j goes.0 (reply e)) last (after d e) (files_then j e d files) owners kept.shows.settles kept.shows.locked kept.shows.sound kept.knows goes.3 honest.1 lawful in
       record { due = more.due; knows = more.knows }
 
-pub run_safe : (j : Job) (d : Disk) (es : List Event) (last : State) → IsRun j d es last → IsSettledAs j.actor (disk d es) (files_after j d (settled_files j.actor d) es) (locks_after j d (settled_locks j.actor d) es) × Knows j last (disk d es)
+pub run_safe : (j : Job) (d : Disk) (es : List Event) (last : State) → IsRun j d es last
+    → IsSettledAs j.actor (disk d es) (files_after j d (settled_files j.actor d) es) (locks_after j d (settled_locks j.actor d) es) × Knows j last (disk d es)
 run_safe j d es last run =
     let all = safe j run.job es Seizing last d (settled_files j.actor d) (settled_locks j.actor d) (λ n. refl) (λ n. refl) run.sound run.fresh run.goes run.honest run.lawful in
     (all.due, all.knows)

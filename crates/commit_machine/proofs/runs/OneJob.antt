@@ -56,7 +56,8 @@ decides-same j queue (event.Publish from to false failed) d = refl
 decides-same j queue e d = refl
 
 -- where nothing is decided, or the first edits are those of the job, the same is due
-pub then-same : (j : Job) (queue : List (List Edit)) (e : Event) (d : Disk) (f g : Files) → Same f g → (is_decision j e d ≡ false) ⊎ (first_edits queue ≡ edits_of j) → Same (files_then (first_job j.actor j.token queue) e d f) (files_then j e d g)
+pub then-same : (j : Job) (queue : List (List Edit)) (e : Event) (d : Disk) (f g : Files) → Same f g
+    → (is_decision j e d ≡ false) ⊎ (first_edits queue ≡ edits_of j) → Same (files_then (first_job j.actor j.token queue) e d f) (files_then j e d g)
 then-same j queue (event.Foreign step) d f g same why n = ap (renewed same_file (settled_files j.actor d n) (settled_files j.actor (after_step d step) n)) (same n)
 then-same j queue e d f g same (inl nay) n =
     ap (λ (b : Bool). if b then applied (first_edits queue) f n else f n) (decides-same j queue e d ∙ nay) ∙ same n ∙ sym (ap (λ (b : Bool). if b then applied (edits_of j) g n else g n) nay)
@@ -88,7 +89,8 @@ pub record Alike (j : Job) (d : Disk) (queue left : List (List Edit)) (f g : Fil
   pub files : Same (run_files j.actor j.token d queue f es) (files_after j d g es)
   pub rest : queue_after j.actor j.token d queue es ≡ left
 
-pub alike-on : (j : Job) (d : Disk) (queue now left : List (List Edit)) (f g : Files) (e : Event) (es : List Event) → queue_then j.actor j.token queue e d ≡ now → Alike j (after d e) now left (files_then (first_job j.actor j.token queue) e d f) (files_then j e d g) es → Alike j d queue left f g (e ∷ es)
+pub alike-on : (j : Job) (d : Disk) (queue now left : List (List Edit)) (f g : Files) (e : Event) (es : List Event)
+    → queue_then j.actor j.token queue e d ≡ now → Alike j (after d e) now left (files_then (first_job j.actor j.token queue) e d f) (files_then j e d g) es → Alike j d queue left f g (e ∷ es)
 alike-on j d queue now left f g e es is more = record {
   files = λ n. ap (λ (q : List (List Edit)). run_files j.actor j.token (after d e) q (files_then (first_job j.actor j.token queue) e d f) es n) is ∙ more.files n;
   rest = ap (λ (q : List (List Edit)). queue_after j.actor j.token (after d e) q es) is ∙ more.rest;
@@ -106,9 +108,11 @@ pub decided : (j : Job) (es : List Event) (d : Disk) (more : List (List Edit)) (
 decided j [] d more f g n same one = absurd (omega (arith, one))
 decided j (e ∷ es) d more f g n same one = elim (cases_Bool (is_decision j e d)) [
   | inl y ↦ alike-on j d (edits_of j ∷ more) more more f g e es (queue-goes j (edits_of j ∷ more) e d y)
-      (undecided j es (after d e) more (files_then (first_job j.actor j.token (edits_of j ∷ more)) e d f) (files_then j e d g) (suc n) (then-same j (edits_of j ∷ more) e d f g same (inr refl)) (sym (counted-yes j e es d n y) ∙ one))
+      (undecided j es (after d e) more (files_then (first_job j.actor j.token (edits_of j ∷ more)) e d f) (files_then j e d g) (suc n)
+      (then-same j (edits_of j ∷ more) e d f g same (inr refl)) (sym (counted-yes j e es d n y) ∙ one))
   | inr nay ↦ alike-on j d (edits_of j ∷ more) (edits_of j ∷ more) more f g e es (queue-stays j (edits_of j ∷ more) e d nay)
-      (decided j es (after d e) more (files_then (first_job j.actor j.token (edits_of j ∷ more)) e d f) (files_then j e d g) n (then-same j (edits_of j ∷ more) e d f g same (inl nay)) (sym (counted-no j e es d n nay) ∙ one))
+      (decided j es (after d e) more (files_then (first_job j.actor j.token (edits_of j ∷ more)) e d f) (files_then j e d g) n
+      (then-same j (edits_of j ∷ more) e d f g same (inl nay)) (sym (counted-no j e es d n nay) ∙ one))
 ]
 
 -- the locks due are those of others, whatever the job
@@ -125,11 +129,13 @@ pub files-split : (actor : List ℕ) (token : ℕ) (xs ys : List Event) (d : Dis
 files-split actor token [] ys d queue f n = refl
 files-split actor token (e ∷ xs) ys d queue f n = files-split actor token xs ys (after d e) (queue_then actor token queue e d) (files_then (first_job actor token queue) e d f) n
 
-pub queue-split : (actor : List ℕ) (token : ℕ) (xs ys : List Event) (d : Disk) (queue : List (List Edit)) → queue_after actor token d queue (xs ++ ys) ≡ queue_after actor token (disk d xs) (queue_after actor token d queue xs) ys
+pub queue-split : (actor : List ℕ) (token : ℕ) (xs ys : List Event) (d : Disk) (queue : List (List Edit))
+    → queue_after actor token d queue (xs ++ ys) ≡ queue_after actor token (disk d xs) (queue_after actor token d queue xs) ys
 queue-split actor token [] ys d queue = refl
 queue-split actor token (e ∷ xs) ys d queue = queue-split actor token xs ys (after d e) (queue_then actor token queue e d)
 
-pub locks-split : (actor : List ℕ) (token : ℕ) (xs ys : List Event) (d : Disk) (f : Locks) (n : List ℕ) → run_locks actor token d f (xs ++ ys) n ≡ run_locks actor token (disk d xs) (run_locks actor token d f xs) ys n
+pub locks-split : (actor : List ℕ) (token : ℕ) (xs ys : List Event) (d : Disk) (f : Locks) (n : List ℕ)
+    → run_locks actor token d f (xs ++ ys) n ≡ run_locks actor token (disk d xs) (run_locks actor token d f xs) ys n
 locks-split actor token [] ys d f n = refl
 locks-split actor token (e ∷ xs) ys d f n = locks-split actor token xs ys (after d e) (locks_then (first_job actor token []) e d f) n
 
@@ -151,7 +157,8 @@ module _ (actor : List ℕ) (token : ℕ) where
     pub rest : queue_after actor token d queue es ≡ left
 
   -- events that only look
-  pub between : (es : List Event) (d : Disk) (queue : List (List Edit)) (files : Files) (owners : Locks) → Stands d files owners → OnlyLooks (own es) → OthersAreLawful actor token d es → Leaves d queue queue files owners es
+  pub between : (es : List Event) (d : Disk) (queue : List (List Edit)) (files : Files) (owners : Locks) → Stands d files owners → OnlyLooks (own es)
+      → OthersAreLawful actor token d es → Leaves d queue queue files owners es
   between [] d queue files owners s looks lawful = record { due = record { same_files = s.settles; same_locks = s.locked; sound = s.sound }; fresh = s.fresh; rest = refl }
   between (event.Foreign f ∷ es) d queue files owners s looks lawful =
       let j = first_job actor token queue in
@@ -162,12 +169,17 @@ module _ (actor : List ℕ) (token : ℕ) where
         fresh = others_knows j d (after_step d f) (lawful_keeps actor token d f lawful.0) Seizing s.fresh;
       }) looks lawful.2 in
       record { due = record { same_files = more.due.same_files; same_locks = more.due.same_locks; sound = more.due.sound }; fresh = more.fresh; rest = more.rest }
-  between (event.In bytes failed ∷ es) d queue files owners s looks lawful = let more = between es d queue files owners s looks.1 lawful in record { due = more.due; fresh = more.fresh; rest = more.rest }
-  between (event.Out bytes failed ∷ es) d queue files owners s looks lawful = let more = between es d queue files owners s looks.1 lawful in record { due = more.due; fresh = more.fresh; rest = more.rest }
-  between (event.Child program args input answer failed ∷ es) d queue files owners s looks lawful = let more = between es d queue files owners s looks.1 lawful in record { due = more.due; fresh = more.fresh; rest = more.rest }
-  between (event.Edit name shell command text answer failed ∷ es) d queue files owners s looks lawful = let more = between es d queue files owners s looks.1 lawful in record { due = more.due; fresh = more.fresh; rest = more.rest }
+  between (event.In bytes failed ∷ es) d queue files owners s looks lawful = let more = between es d queue files owners s looks.1 lawful in
+      record { due = more.due; fresh = more.fresh; rest = more.rest }
+  between (event.Out bytes failed ∷ es) d queue files owners s looks lawful = let more = between es d queue files owners s looks.1 lawful in
+      record { due = more.due; fresh = more.fresh; rest = more.rest }
+  between (event.Child program args input answer failed ∷ es) d queue files owners s looks lawful = let more =
+      between es d queue files owners s looks.1 lawful in record { due = more.due; fresh = more.fresh; rest = more.rest }
+  between (event.Edit name shell command text answer failed ∷ es) d queue files owners s looks lawful = let more =
+      between es d queue files owners s looks.1 lawful in record { due = more.due; fresh = more.fresh; rest = more.rest }
   between (event.Now seconds ∷ es) d queue files owners s looks lawful = let more = between es d queue files owners s looks.1 lawful in record { due = more.due; fresh = more.fresh; rest = more.rest }
-  between (event.Load name seen ∷ es) d queue files owners s looks lawful = let more = between es d queue files owners s looks.1 lawful in record { due = more.due; fresh = more.fresh; rest = more.rest }
+  between (event.Load name seen ∷ es) d queue files owners s looks lawful = let more = between es d queue files owners s looks.1 lawful in
+      record { due = more.due; fresh = more.fresh; rest = more.rest }
   between (e ∷ es) d queue files owners s looks lawful = absurd (let h = looks.0 in (cc h))
 
   -- the events of a bracket are a run of its job
@@ -180,7 +192,8 @@ module _ (actor : List ℕ) (token : ℕ) where
     job = at_time time (job_as actor token edits refusal)
 
     -- what is due after a stretch of the job, as the run has it
-    pub due-as : (d now : Disk) (queue left : List (List Edit)) (files : Files) (owners : Locks) (es : List Event) → Stands d files owners → Alike job d queue left files (settled_files actor d) es → IsDue job d es now → Due d queue files owners es now
+    pub due-as : (d now : Disk) (queue left : List (List Edit)) (files : Files) (owners : Locks) (es : List Event) → Stands d files owners
+        → Alike job d queue left files (settled_files actor d) es → IsDue job d es now → Due d queue files owners es now
     due-as d now queue left files owners es s a due = record {
       same_files = λ n. due.same_files n ∙ sym (a.files n);
       same_locks = λ n. due.same_locks n ∙ sym (locks-alike job [] es d owners (settled_locks actor d) (λ m. sym (s.locked m)) n);
@@ -188,47 +201,58 @@ module _ (actor : List ℕ) (token : ℕ) where
     }
 
     -- whether it was decided so far or not
-    pub one-at-most : (d : Disk) (more : List (List Edit)) (files : Files) (owners : Locks) (es : List Event) (last : State) → Stands d files owners → IsRun job d es last → (left : List (List Edit)) × Alike job d (edits_of job ∷ more) left files (settled_files actor d) es
+    pub one-at-most : (d : Disk) (more : List (List Edit)) (files : Files) (owners : Locks) (es : List Event) (last : State) → Stands d files owners
+        → IsRun job d es last → (left : List (List Edit)) × Alike job d (edits_of job ∷ more) left files (settled_files actor d) es
     one-at-most d more files owners es last s run = elim (few_decisions job d es last run) [
       | inl none ↦ (edits_of job ∷ more, undecided job es d (edits_of job ∷ more) files (settled_files actor d) 0 (λ n. sym (s.settles n)) none)
       | inr one ↦ (more, decided job es d more files (settled_files actor d) 0 (λ n. sym (s.settles n)) one)
     ]
 
     -- a job that ends without a fault
-    pub whole : (d : Disk) (queue left : List (List Edit)) (files : Files) (owners : Locks) (es : List Event) (end : Ending) → Stands d files owners → IsRun job d es (Ended end) → MetNoFault end → Alike job d queue left files (settled_files actor d) es → Leaves d queue left files owners es
+    pub whole : (d : Disk) (queue left : List (List Edit)) (files : Files) (owners : Locks) (es : List Event) (end : Ending) → Stands d files owners
+        → IsRun job d es (Ended end) → MetNoFault end → Alike job d queue left files (settled_files actor d) es → Leaves d queue left files owners es
     whole d queue left files owners es end s run fine a =
         record { due = due-as d (disk d es) queue left files owners es s a (crash_safe job d es (Ended end) run); fresh = nothing_left job d es end fine run; rest = a.rest }
 
-    pub not-decided : (d : Disk) (queue : List (List Edit)) (files : Files) (owners : Locks) (es : List Event) (end : Ending) → Stands d files owners → IsRun job d es (Ended end) → MetNoFault end → decisions job d 0 es ≡ 0 → Leaves d queue queue files owners es
-    not-decided d queue files owners es end s run fine none = whole d queue queue files owners es end s run fine (undecided job es d queue files (settled_files actor d) 0 (λ n. sym (s.settles n)) none)
+    pub not-decided : (d : Disk) (queue : List (List Edit)) (files : Files) (owners : Locks) (es : List Event) (end : Ending) → Stands d files owners
+        → IsRun job d es (Ended end) → MetNoFault end → decisions job d 0 es ≡ 0 → Leaves d queue queue files owners es
+    not-decided d queue files owners es end s run fine none =
+        whole d queue queue files owners es end s run fine (undecided job es d queue files (settled_files actor d) 0 (λ n. sym (s.settles n)) none)
 
-    pub was-decided : (d : Disk) (more : List (List Edit)) (files : Files) (owners : Locks) (es : List Event) (end : Ending) → Stands d files owners → IsRun job d es (Ended end) → MetNoFault end → decisions job d 0 es ≡ 1 → Leaves d (edits_of job ∷ more) more files owners es
-    was-decided d more files owners es end s run fine one = whole d (edits_of job ∷ more) more files owners es end s run fine (decided job es d more files (settled_files actor d) 0 (λ n. sym (s.settles n)) one)
+    pub was-decided : (d : Disk) (more : List (List Edit)) (files : Files) (owners : Locks) (es : List Event) (end : Ending) → Stands d files owners
+        → IsRun job d es (Ended end) → MetNoFault end → decisions job d 0 es ≡ 1 → Leaves d (edits_of job ∷ more) more files owners es
+    was-decided d more files owners es end s run fine one =
+        whole d (edits_of job ∷ more) more files owners es end s run fine (decided job es d more files (settled_files actor d) 0 (λ n. sym (s.settles n)) one)
 
-  pub after-piece : (d : Disk) (queue left : List (List Edit)) (files : Files) (owners : Locks) (es : List Event) → Leaves d queue left files owners es → Stands (disk d es) (run_files actor token d queue files es) (run_locks actor token d owners es)
+  pub after-piece : (d : Disk) (queue left : List (List Edit)) (files : Files) (owners : Locks) (es : List Event)
+      → Leaves d queue left files owners es → Stands (disk d es) (run_files actor token d queue files es) (run_locks actor token d owners es)
   after-piece d queue left files owners es l = record { settles = l.due.same_files; locked = l.due.same_locks; sound = l.due.sound; fresh = l.fresh }
 
   -- what is due after one stretch and then another
   pub due-then : (d now : Disk) (queue left : List (List Edit)) (files : Files) (owners : Locks) (xs ys : List Event) → queue_after actor token d queue xs ≡ left
       → Due (disk d xs) left (run_files actor token d queue files xs) (run_locks actor token d owners xs) ys now → Due d queue files owners (xs ++ ys) now
   due-then d now queue left files owners xs ys rest due = record {
-    same_files = λ n. due.same_files n ∙ sym (files-split actor token xs ys d queue files n ∙ ap (λ (q : List (List Edit)). run_files actor token (disk d xs) q (run_files actor token d queue files xs) ys n) rest);
+    same_files = λ n. due.same_files n ∙ sym
+        (files-split actor token xs ys d queue files n ∙ ap (λ (q : List (List Edit)). run_files actor token (disk d xs) q (run_files actor token d queue files xs) ys n) rest);
     same_locks = λ n. due.same_locks n ∙ sym (locks-split actor token xs ys d owners n);
     sound = due.sound;
   }
 
-pub lawful-append : (actor : List ℕ) (token : ℕ) (xs ys : List Event) (d : Disk) → OthersAreLawful actor token d xs → OthersAreLawful actor token (disk d xs) ys → OthersAreLawful actor token d (xs ++ ys)
+pub lawful-append : (actor : List ℕ) (token : ℕ) (xs ys : List Event) (d : Disk) → OthersAreLawful actor token d xs
+    → OthersAreLawful actor token (disk d xs) ys → OthersAreLawful actor token d (xs ++ ys)
 lawful-append actor token [] ys d h more = more
 lawful-append actor token (event.Foreign f ∷ xs) ys d h more = (h.0, h.1, lawful-append actor token xs ys (after_step d f) h.2 more)
 lawful-append actor token (e ∷ xs) ys d h more = lawful-append actor token xs ys (after d e) h more
 
 -- a run with one more call that fails
-pub run-cut : (j : Job) (d : Disk) (before : List Event) (mid now : State) (c : Event) → IsRun j d before mid → Goes j mid (c ∷ []) now → own (c ∷ []) ≡ c ∷ [] → Honest (disk d before) (c ∷ []) → OthersAreLawful j.actor j.token (disk d before) (c ∷ []) → IsRun j d (before ++ c ∷ []) now
+pub run-cut : (j : Job) (d : Disk) (before : List Event) (mid now : State) (c : Event) → IsRun j d before mid → Goes j mid (c ∷ []) now
+    → own (c ∷ []) ≡ c ∷ [] → Honest (disk d before) (c ∷ []) → OthersAreLawful j.actor j.token (disk d before) (c ∷ []) → IsRun j d (before ++ c ∷ []) now
 run-cut j d before mid now c run goes mine honest lawful = record {
   job = run.job;
   fresh = run.fresh;
   sound = run.sound;
-  goes = subst (λ (es : List Event). Goes j Seizing es now) (sym (own-append before (c ∷ []) ∙ ap (λ (es : List Event). own before ++ es) mine)) (stretches_join j Seizing mid now (own before) (c ∷ []) run.goes goes);
+  goes = subst (λ (es : List Event). Goes j Seizing es now) (sym (own-append before (c ∷ []) ∙ ap (λ (es : List Event). own before ++ es) mine))
+      (stretches_join j Seizing mid now (own before) (c ∷ []) run.goes goes);
   honest = Honest-append d before (c ∷ []) run.honest honest;
   lawful = lawful-append j.actor j.token before (c ∷ []) d run.lawful lawful;
 }
@@ -238,7 +262,8 @@ honest-back [] ys d h = h
 honest-back (x ∷ xs) ys d h = honest-back xs ys (after d x) h.1
 
 -- a run with what an image of a stop holds of its next event is a run
-pub flight : (j : Job) (d : Disk) (before : List Event) (e : Event) (rest : List Event) (last : State) (part : Part) → IsRun j d (before ++ e ∷ rest) last → (now : State) × IsRun j d (before ++ in_flight (disk d before) e part) now
+pub flight : (j : Job) (d : Disk) (before : List Event) (e : Event) (rest : List Event) (last : State) (part : Part)
+    → IsRun j d (before ++ e ∷ rest) last → (now : State) × IsRun j d (before ++ in_flight (disk d before) e part) now
 flight j d before (event.Foreign f) rest last part run = go (is_after part)
   where
     go : (b : Bool) → (now : State) × IsRun j d (before ++ (if b then event.Foreign f ∷ [] else [])) now

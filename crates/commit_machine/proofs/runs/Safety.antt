@@ -45,7 +45,12 @@ module _ (make : Files → Files) (j : Job) (makes : (files : Files) (n : List �
   after_made (x ∷ es) d f g e n = after_made es (after d x) (files_then j x d f) (made_then make j x d g) (λ m. then_made x d f g m (e m)) n
 
   due_made : (d : Disk) (es : List Event) (now : Disk) → IsDue j d es now → IsDueAs make j d es now
-  due_made d es now due = record { same_files = λ n. due.same_files n ∙ after_made es d (settled_files j.actor d) (settled_files j.actor d) (λ m. refl) n; same_locks = due.same_locks; sound = due.sound }
+  due_made d es now due = record {
+    same_files =
+        λ n. due.same_files n ∙ after_made es d (settled_files j.actor d) (settled_files j.actor d) (λ m. refl) n;
+    same_locks = due.same_locks;
+    sound = due.sound;
+  }
 
 -- the own events are calls on the disk, or ask for the time
 call_of : {c : Call} {e : Event} → IsOf c e → is_call e ≡ true

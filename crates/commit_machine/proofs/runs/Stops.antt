@@ -60,10 +60,14 @@ cut_agrees d e part agrees = agrees
 
 module _ (j : Job) (job : IsJob j) (part : Part) where
   -- what shows on the image of a stop inside an event
-  stop_here : (e : Event) (rest : List Event) (s last : State) (d : Disk) (files : Files) (owners : Locks) → ((n : List ℕ) → settled_files j.actor d n ≡ files n) → ((n : List ℕ) → settled_locks j.actor d n ≡ owners n) → IsSound j.actor d → Knows j s d → Goes j s (own (e ∷ rest)) last → Honest d (e ∷ rest) → OthersAreLawful j.actor j.token d (e ∷ rest) → IsSettledAs j.actor (stopped d e part) (files_after j d files (in_flight d e part)) (locks_after j d owners (in_flight d e part))
+  stop_here : (e : Event) (rest : List Event) (s last : State) (d : Disk) (files : Files) (owners : Locks)
+      → ((n : List ℕ) → settled_files j.actor d n ≡ files n) → ((n : List ℕ) → settled_locks j.actor d n ≡ owners n) → IsSound j.actor d → Knows j s d
+      → Goes j s (own (e ∷ rest)) last → Honest d (e ∷ rest) → OthersAreLawful j.actor j.token d (e ∷ rest)
+      → IsSettledAs j.actor (stopped d e part) (files_after j d files (in_flight d e part)) (locks_after j d owners (in_flight d e part))
   stop_here (event.Foreign f) rest s last d files owners settles locked sound k goes honest lawful = go (is_after part)
     where
-      go : (b : Bool) → IsSettledAs j.actor (ended (if b then after_step d f else d)) (files_after j d files (if b then event.Foreign f ∷ [] else [])) (locks_after j d owners (if b then event.Foreign f ∷ [] else []))
+      go : (b : Bool) → IsSettledAs j.actor (ended (if b then after_step d f else d)) (files_after j d files (if b then event.Foreign f ∷ [] else []))
+          (locks_after j d owners (if b then event.Foreign f ∷ [] else []))
       go true = record {
         same_files = λ n. renewed_is same_file file_true (settled_files j.actor d n) (settled_files j.actor (after_step d f) n) (files n) (settles n);
         same_locks = λ n. renewed_is same_lock lock_true (settled_locks j.actor d n) (settled_locks j.actor (after_step d f) n) (owners n) (locked n);
@@ -71,10 +75,13 @@ module _ (j : Job) (job : IsJob j) (part : Part) where
       }
       go false = record { same_files = settles; same_locks = locked; sound = sound }
   stop_here e rest s last d files owners settles locked sound k goes honest lawful =
-      let kept = Moments.own_step j job d files owners settles locked sound goes.0 (cut_short d e part) (cut_next d part (next j goes.0) e goes.2) (cut_agrees d e part honest.0) (Moments.known_now j job d s goes.0 goes.1 k) in
+      let kept = Moments.own_step j job d files owners settles locked sound goes.0 (cut_short d e part) (cut_next d part (next j goes.0) e goes.2)
+      (cut_agrees d e part honest.0) (Moments.known_now j job d s goes.0 goes.1 k) in
       record { same_files = kept.shows.settles; same_locks = kept.shows.locked; sound = kept.shows.sound }
 
-  stop_at : (before : List Event) (e : Event) (rest : List Event) (s last : State) (d : Disk) (files : Files) (owners : Locks) → ((n : List ℕ) → settled_files j.actor d n ≡ files n) → ((n : List ℕ) → settled_locks j.actor d n ≡ owners n) → IsSound j.actor d → Knows j s d → Goes j s (own (before ++ e ∷ rest)) last → Honest d (before ++ e ∷ rest) → OthersAreLawful j.actor j.token d (before ++ e ∷ rest)
+  stop_at : (before : List Event) (e : Event) (rest : List Event) (s last : State) (d : Disk) (files : Files) (owners : Locks)
+      → ((n : List ℕ) → settled_files j.actor d n ≡ files n) → ((n : List ℕ) → settled_locks j.actor d n ≡ owners n) → IsSound j.actor d → Knows j s d
+      → Goes j s (own (before ++ e ∷ rest)) last → Honest d (before ++ e ∷ rest) → OthersAreLawful j.actor j.token d (before ++ e ∷ rest)
       → IsSettledAs j.actor (stopped (disk d before) e part) (files_after j d files (before ++ in_flight (disk d before) e part)) (locks_after j d owners (before ++ in_flight (disk d before) e part))
   stop_at [] e rest s last d files owners settles locked sound k goes honest lawful = stop_here e rest s last d files owners settles locked sound k goes honest lawful
   stop_at (event.Foreign f ∷ es) e rest s last d files owners settles locked sound k goes honest lawful =
@@ -87,17 +94,21 @@ module _ (j : Job) (job : IsJob j) (part : Part) where
       stop_at es e rest (after_reply j goes.0 (reply x)) last (after d x) (files_then j x d files) owners kept.shows.settles kept.shows.locked kept.shows.sound kept.knows goes.3 honest.1 lawful
 
 pub stop_safe : StopSafe
-stop_safe j d before e rest last part run = stop_at j run.job part before e rest Seizing last d (settled_files j.actor d) (settled_locks j.actor d) (λ n. refl) (λ n. refl) run.sound run.fresh run.goes run.honest run.lawful
+stop_safe j d before e rest last part run =
+    stop_at j run.job part before e rest Seizing last d (settled_files j.actor d) (settled_locks j.actor d) (λ n. refl) (λ n. refl) run.sound run.fresh run.goes run.honest run.lawful
 
-files_at_end : (j : Job) (d : Disk) (before : List Event) (e : Event) (files : Files) (n : List ℕ) → files_after j d files (before ++ e ∷ []) n ≡ files_then j e (disk d before) (files_after j d files before) n
+files_at_end : (j : Job) (d : Disk) (before : List Event) (e : Event) (files : Files) (n : List ℕ)
+    → files_after j d files (before ++ e ∷ []) n ≡ files_then j e (disk d before) (files_after j d files before) n
 files_at_end j d [] e files n = refl
 files_at_end j d (x ∷ es) e files n = files_at_end j (after d x) es e (files_then j x d files) n
 
-locks_at_end : (j : Job) (d : Disk) (before : List Event) (e : Event) (owners : Locks) (n : List ℕ) → locks_after j d owners (before ++ e ∷ []) n ≡ locks_then j e (disk d before) (locks_after j d owners before) n
+locks_at_end : (j : Job) (d : Disk) (before : List Event) (e : Event) (owners : Locks) (n : List ℕ)
+    → locks_after j d owners (before ++ e ∷ []) n ≡ locks_then j e (disk d before) (locks_after j d owners before) n
 locks_at_end j d [] e owners n = refl
 locks_at_end j d (x ∷ es) e owners n = locks_at_end j (after d x) es e (locks_then j x d owners) n
 
-files_by_decision : (j : Job) (d : Disk) (e : Event) (files : Files) (n : List ℕ) → is_foreign e ≡ false → files_then j e d files n ≡ if is_decision j e d then applied (edits_of j) files n else files n
+files_by_decision : (j : Job) (d : Disk) (e : Event) (files : Files) (n : List ℕ) → is_foreign e ≡ false
+    → files_then j e d files n ≡ if is_decision j e d then applied (edits_of j) files n else files n
 files_by_decision j d (event.Foreign f) files n own_one = absurd (cc)
 files_by_decision j d e files n own_one = refl
 

@@ -25,7 +25,8 @@ long_record = behind 2 (event.Load (record_name home) (seen.TooLarge 5) ∷ rele
 
 long_file : MayEnd file_too_long (Refused (TooLarge out 5))
 unfolding record_name new_name right_name staged_name encode_with
-long_file = behind 6 (event.Load out (seen.TooLarge 5) ∷ clean_up) (Ended (Refused (TooLarge out 5))) (_, inl refl, loads, (_, inl refl, unlocks, (_, inl refl, erases, (_, inl refl, releases, inl refl))))
+long_file = behind 6 (event.Load out (seen.TooLarge 5) ∷ clean_up) (Ended (Refused (TooLarge out 5)))
+    (_, inl refl, loads, (_, inl refl, unlocks, (_, inl refl, erases, (_, inl refl, releases, inl refl))))
 
 short : MayEnd no_memory NoMemory
 unfolding record_name new_name right_name staged_name encode_with
@@ -48,19 +49,25 @@ part_staged = behind 7 (event.Stage (staged_name 1 out) (Some (codes "")) true �
 
 unknown : MayEnd failed_unknown (Failed Unknown)
 unfolding record_name new_name right_name staged_name encode_with
-unknown = behind 9 (event.Publish (new_name home) (record_name home) true true ∷ event.Load (record_name home) seen.Failed ∷ release) (Ended (Failed Unknown)) (_, inl refl, publishes, (_, inl refl, loads, (_, inl refl, releases, inl refl)))
+unknown = behind 9 (event.Publish (new_name home) (record_name home) true true ∷ event.Load (record_name home) seen.Failed ∷ release)
+    (Ended (Failed Unknown)) (_, inl refl, publishes, (_, inl refl, loads, (_, inl refl, releases, inl refl)))
 
 short_look : MayEnd no_memory_to_look (Failed Unknown)
 unfolding record_name new_name right_name staged_name encode_with
-short_look = behind 9 (event.Publish (new_name home) (record_name home) true true ∷ event.Load (record_name home) seen.Memory ∷ release) (Ended (Failed Unknown)) (_, inl refl, publishes, (_, inl refl, loads, (_, inl refl, releases, inl refl)))
+short_look = behind 9 (event.Publish (new_name home) (record_name home) true true ∷ event.Load (record_name home) seen.Memory ∷ release)
+    (Ended (Failed Unknown)) (_, inl refl, publishes, (_, inl refl, loads, (_, inl refl, releases, inl refl)))
 
 looked_old : MayEnd looked_before (Failed Before)
 unfolding record_name new_name right_name staged_name encode_with go_front written
-looked_old = behind 9 (event.Publish (new_name home) (record_name home) false true ∷ event.Load (record_name home) (seen.Bytes (Some (written (record_for Prepare (out ∷ [])))) false) ∷ release) (Ended (Failed Before)) (_, inl refl, publishes, (_, inl refl, loads, (_, inl refl, releases, inl refl)))
+looked_old = behind 9 (event.Publish (new_name home) (record_name home) false true
+    ∷ event.Load (record_name home) (seen.Bytes (Some (written (record_for Prepare (out ∷ [])))) false) ∷ release) (Ended (Failed Before))
+    (_, inl refl, publishes, (_, inl refl, loads, (_, inl refl, releases, inl refl)))
 
 looked_new : MayEnd looked_after (Failed After)
 unfolding record_name new_name right_name staged_name encode_with go_front written
-looked_new = behind 9 (event.Publish (new_name home) (record_name home) true true ∷ event.Load (record_name home) (seen.Bytes (Some (written (record_for Go (out ∷ [])))) false) ∷ release) (Ended (Failed After)) (_, inl refl, publishes, (_, inl refl, loads, (_, inl refl, releases, inl refl)))
+looked_new = behind 9 (event.Publish (new_name home) (record_name home) true true
+    ∷ event.Load (record_name home) (seen.Bytes (Some (written (record_for Go (out ∷ [])))) false) ∷ release) (Ended (Failed After))
+    (_, inl refl, publishes, (_, inl refl, loads, (_, inl refl, releases, inl refl)))
 
 after_it : MayEnd failed_after (Failed After)
 unfolding record_name new_name right_name staged_name encode_with
@@ -75,4 +82,21 @@ unfolding record_name new_name right_name staged_name encode_with
 erasure_fails = behind 12 (event.Erase (record_name home) false true ∷ release) (Ended (Failed After)) (_, inl refl, erases, (_, inl refl, releases, inl refl))
 
 pub troubled_runs : TroubledRuns
-troubled_runs = record { record_too_long = long_record; file_too_long = long_file; no_memory = short; no_memory_to_stage = short_staging; failed_seizure = seizure; failed_before = before; failed_staging = part_staged; failed_unknown = unknown; no_memory_to_look = short_look; looked_before = looked_old; looked_after = looked_new; failed_after = after_it; failed_unlock = unlock_fails; failed_erasure = erasure_fails }
+troubled_runs = record {
+  record_too_long = long_record;
+  file_too_long = long_file;
+  no_memory = short;
+  no_memory_to_stage =
+      short_staging;
+  failed_seizure = seizure;
+  failed_before = before;
+  failed_staging = part_staged;
+  failed_unknown = unknown;
+  no_memory_to_look =
+      short_look;
+  looked_before = looked_old;
+  looked_after = looked_new;
+  failed_after = after_it;
+  failed_unlock = unlock_fails;
+  failed_erasure = erasure_fails;
+}

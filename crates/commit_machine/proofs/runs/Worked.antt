@@ -89,7 +89,8 @@ last_from j d o = alone_last 28 j (record_seen o) (after d (event.Seize (right_n
 -- and of a job that asks for the time
 timed_record : Job → Disk → List ℕ → Option Record → List Event
 timed_record j d bytes o =
-    event.Seize (right_name home) true false ∷ event.Now morning ∷ event.Load (record_name home) (seen.Bytes (Some bytes) false) ∷ alone 27 j (record_seen o) (after d (event.Seize (right_name home) true false))
+    event.Seize (right_name home) true false ∷ event.Now morning ∷ event.Load (record_name home) (seen.Bytes (Some bytes) false)
+    ∷ alone 27 j (record_seen o) (after d (event.Seize (right_name home) true false))
 
 timed_last : Job → Disk → Option Record → State
 timed_last j d o = alone_last 27 j (record_seen o) (after d (event.Seize (right_name home) true false))
@@ -186,7 +187,8 @@ last_of k j s d None = s
 last_of k j s d (Some c) = alone_last k j (after_reply j s (reply (carried d c))) (after d (carried d c))
 
 module _ (j : Job) where
-  one_more : (k : ℕ) (s : State) (d : Disk) → ((t : State) (d' : Disk) → Goes j t (alone k j t d') (alone_last k j t d') × Honest d' (alone k j t d')) → (o : Option Call) → next j s ≡ o → Goes j s (more_of k j s d o) (last_of k j s d o) × Honest d (more_of k j s d o)
+  one_more : (k : ℕ) (s : State) (d : Disk) → ((t : State) (d' : Disk) → Goes j t (alone k j t d') (alone_last k j t d') × Honest d' (alone k j t d'))
+      → (o : Option Call) → next j s ≡ o → Goes j s (more_of k j s d o) (last_of k j s d o) × Honest d (more_of k j s d o)
   one_more k s d more None e = (inl refl, tt)
   one_more k s d more (Some c) e =
       let w = more (after_reply j s (reply (carried d c))) (after d (carried d c)) in
@@ -280,8 +282,10 @@ go_replaced n at (inr (inr h)) way = absurd h
 sound_go : (d : Disk) → standing home d ≡ Some the_go → d.locks mbox ≡ Some 1 → d.locks out ≡ Some 1 → IsSound home d
 sound_go d stands a b = record {
   plain = λ q n e go m. let same : the_go ≡ q = (let w : Some the_go ≡ Some q = sym stands ∙ e in cc) in go_plain n (subst (λ (z : Record). Mem n (names_of z)) (sym same) m);
-  locked = λ q n e go m s. let same : the_go ≡ q = (let w : Some the_go ≡ Some q = sym stands ∙ e in cc) in go_locked d a b n (subst (λ (z : Record). Mem n (names_of z)) (sym same) m) ∙ ap (λ (z : Record). Some z.token) same;
-  long = λ q n at e go m way s. let same : the_go ≡ q = (let w : Some the_go ≡ Some q = sym stands ∙ e in cc) in go_replaced n at (subst (λ (z : Record). Mem n (names_of z)) (sym same) m) (subst (λ (z : Record). way_at z n ≡ Extend at) (sym same) way);
+  locked = λ q n e go m s. let same : the_go ≡ q = (let w : Some the_go ≡ Some q = sym stands ∙ e in cc) in
+      go_locked d a b n (subst (λ (z : Record). Mem n (names_of z)) (sym same) m) ∙ ap (λ (z : Record). Some z.token) same;
+  long = λ q n at e go m way s. let same : the_go ≡ q = (let w : Some the_go ≡ Some q = sym stands ∙ e in cc) in
+      go_replaced n at (subst (λ (z : Record). Mem n (names_of z)) (sym same) m) (subst (λ (z : Record). way_at z n ≡ Extend at) (sym same) way);
 }
 
 two_plain : (e : Edit) → Mem e (edits_of two_files) → is_record_name home e.name ≡ false
@@ -302,11 +306,45 @@ nothing_fresh : IsFresh home 1 nothing
 nothing_fresh = record { staged = λ m. refl; locks = λ m e. absurd (cc); record_other = λ r e. absurd (cc) }
 
 two_goes : Goes two_files Seizing commit_of_two (Ended Done)
-two_goes = subst (Goes two_files Seizing commit_of_two) two.1 (subst (λ (es : List Event). Goes two_files Seizing es (alone_last 30 two_files Seizing nothing)) two.0 (alone_runs two_files 30 Seizing nothing).0)
+two_goes = subst (Goes two_files Seizing commit_of_two) two.1
+    (subst (λ (es : List Event). Goes two_files Seizing es (alone_last 30 two_files Seizing nothing)) two.0 (alone_runs two_files 30 Seizing nothing).0)
 
 honest_among : Honest nothing commit_among_others
 unfolding record_name new_name right_name staged_name encode_with
-honest_among = (tt, (tt, (refl, (tt, (tt, ((refl, refl), (tt, (refl, (tt, (refl, (refl, (tt, (tt, ((refl, refl), ((refl, refl), (tt, (tt, (tt, (refl, (tt, (refl, (tt, (tt, (refl, (tt, (refl, (refl, (refl, (tt, tt)))))))))))))))))))))))))))))
+honest_among = (
+  tt,
+  (
+    tt,
+    (
+      refl,
+      (
+        tt,
+        (
+          tt,
+          (
+            (refl, refl),
+            (
+              tt,
+              (
+                refl,
+                (
+                  tt,
+                  (
+                    refl,
+                    (
+                      refl,
+                      (tt, (tt, ((refl, refl), ((refl, refl), (tt, (tt, (tt, (refl, (tt, (refl, (tt, (tt, (refl, (tt, (refl, (refl, (refl, (tt, tt)))))))))))))))))),
+                    ),
+                  ),
+                ),
+              ),
+            ),
+          ),
+        ),
+      ),
+    ),
+  ),
+)
 
 abbrev so_far : ℕ → Disk
 so_far n = disk nothing (take n commit_among_others)
@@ -362,4 +400,30 @@ among_others : IsRun two_files nothing commit_among_others (Ended Done)
 among_others = record { job = two_job; fresh = nothing_fresh; sound = sound_none nothing refl; goes = two_goes; honest = honest_among; lawful = lawful_among }
 
 pub worked_runs : WorkedRuns
-worked_runs = record { one = one; tenth = tenth; two = two; none = none; decided = decided; undecided = undecided; busy = busy; kept_out = kept_out; recovery_kept_out = recovery_kept_out; changed = changed; over_decided = over_decided; not_a_record = not_a_record; among_others = among_others; removal = removal; removed = removed; removal_decided = removal_decided; removal_half_done = removal_half_done; removal_done = removal_done; extension = extension; extended = extended; torn = torn; mended = mended }
+worked_runs = record {
+  one = one;
+  tenth = tenth;
+  two = two;
+  none = none;
+  decided = decided;
+  undecided = undecided;
+  busy = busy;
+  kept_out =
+      kept_out;
+  recovery_kept_out = recovery_kept_out;
+  changed = changed;
+  over_decided = over_decided;
+  not_a_record = not_a_record;
+  among_others =
+      among_others;
+  removal = removal;
+  removed = removed;
+  removal_decided = removal_decided;
+  removal_half_done = removal_half_done;
+  removal_done =
+      removal_done;
+  extension = extension;
+  extended = extended;
+  torn = torn;
+  mended = mended;
+}

@@ -22,7 +22,8 @@ IsDistinct (e ∷ es) = ((x : Edit) → Mem x es → e.name ≢ x.name) × IsDis
 
 applied_at : (es : List Edit) (e : Edit) (files : Files) → IsDistinct es → Mem e es → applied es files e.name ≡ outcome_of e (files e.name)
 applied_at [] e files h m = absurd m
-applied_at (x ∷ xs) e files h (inl p) = let s : bytes_eq e.name x.name ≡ true = subst (λ (z : Edit). bytes_eq e.name z.name ≡ true) p (same_refl e.name) in rw s (ap (λ (z : Edit). outcome_of z (files e.name)) (sym p))
+applied_at (x ∷ xs) e files h (inl p) = let s : bytes_eq e.name x.name ≡ true =
+    subst (λ (z : Edit). bytes_eq e.name z.name ≡ true) p (same_refl e.name) in rw s (ap (λ (z : Edit). outcome_of z (files e.name)) (sym p))
 applied_at (x ∷ xs) e files h (inr m) = let s = same_false e.name x.name (λ p. h.0 e m (sym p)) in rw s (applied_at xs e files h.1 m)
 
 applied_other : (es : List Edit) (n : List ℕ) (files : Files) → ((e : Edit) → Mem e es → e.name ≢ n) → applied es files n ≡ files n
@@ -43,7 +44,8 @@ names_Mem (x ∷ xs) e (inr m) = inr (names_Mem xs e m)
 -- a name of a file isn't left out
 not_hidden : (actor : List ℕ) (r : Record) (n : List ℕ) → is_record_name actor n ≡ false → is_lawful n ≡ true → hides actor (Some r) n ≡ false
 not_hidden actor r n plain law =
-    let staged : is_staged_of r n ≡ false = elim (cases_Bool (is_staged_of r n)) [ inl y ↦ (let w = any_staged r.token n (names_of r) y in absurd (lawful-staged n r.token w.0 law w.2)) | inr nay ↦ nay ] in
+    let staged : is_staged_of r n ≡ false = elim
+    (cases_Bool (is_staged_of r n)) [ inl y ↦ (let w = any_staged r.token n (names_of r) y in absurd (lawful-staged n r.token w.0 law w.2)) | inr nay ↦ nay ] in
     rw (plain, staged) refl
 
 module _ (actor : List ℕ) (f : Files) where
@@ -59,7 +61,8 @@ module _ (actor : List ℕ) (f : Files) where
   stands_then : (g : Record) → record_in (f (new_name actor)) ≡ Some g → record_in (renamed f (new_name actor) (record_name actor) (record_name actor)) ≡ Some g
   stands_then g new = ap record_in (renamed_to f (new_name actor) (record_name actor)) ∙ new
 
-  commit_at : (g : Record) (n : List ℕ) → record_in (f (new_name actor)) ≡ Some g → is_go g ≡ true → is_record_name actor n ≡ false → is_lawful n ≡ true → has (names_of g) n ≡ true → settled actor (renamed f (new_name actor) (record_name actor)) n ≡ put_in (way_at g n) (f n) (f (staged_name g.token n))
+  commit_at : (g : Record) (n : List ℕ) → record_in (f (new_name actor)) ≡ Some g → is_go g ≡ true → is_record_name actor n ≡ false
+      → is_lawful n ≡ true → has (names_of g) n ≡ true → settled actor (renamed f (new_name actor) (record_name actor)) n ≡ put_in (way_at g n) (f n) (f (staged_name g.token n))
   commit_at g n new go plain law mem =
       settled_at actor (renamed f (new_name actor) (record_name actor)) n (Some g) (stands_then g new)
       ∙ rw (not_hidden actor g n plain law) refl
@@ -76,24 +79,32 @@ module _ (actor : List ℕ) (f : Files) where
       ap (λ (u : ℕ). is_record_name actor n || list_any (λ k. bytes_eq n (staged_name u k)) (names_of q)) t
       ∙ ap (λ (ms : List (List ℕ)). is_record_name actor n || list_any (λ k. bytes_eq n (staged_name g.token k)) ms) ns
 
-  commit_other : (q g : Record) (n : List ℕ) → record_in (f (record_name actor)) ≡ Some q → is_go q ≡ false → record_in (f (new_name actor)) ≡ Some g → q.token ≡ g.token → names_of q ≡ names_of g → has (names_of g) n ≡ false → settled actor (renamed f (new_name actor) (record_name actor)) n ≡ settled actor f n
+  commit_other : (q g : Record) (n : List ℕ) → record_in (f (record_name actor)) ≡ Some q → is_go q ≡ false → record_in (f (new_name actor)) ≡ Some g
+      → q.token ≡ g.token → names_of q ≡ names_of g → has (names_of g) n ≡ false → settled actor (renamed f (new_name actor) (record_name actor)) n ≡ settled actor f n
   commit_other q g n e go new t ns outside =
       settled_at actor (renamed f (new_name actor) (record_name actor)) n (Some g) (stands_then g new)
       ∙ elim (cases_Bool (hides actor (Some g) n)) [ inl y ↦ hidden y | inr nay ↦ seen nay ]
       ∙ sym (settled_at actor f n (Some q) e)
     where
-      hidden : hides actor (Some g) n ≡ true → (if hides actor (Some g) n then None else placed (Some g) (renamed f (new_name actor) (record_name actor)) n) ≡ (if hides actor (Some q) n then None else placed (Some q) f n)
+      hidden : hides actor (Some g) n ≡ true → (if hides actor (Some g) n then None else placed (Some g)
+          (renamed f (new_name actor) (record_name actor)) n) ≡ (if hides actor (Some q) n then None else placed (Some q) f n)
       hidden y = let z : hides actor (Some q) n ≡ true = same_hides q g n t ns ∙ y in rw (y, z) refl
 
-      seen : hides actor (Some g) n ≡ false → (if hides actor (Some g) n then None else placed (Some g) (renamed f (new_name actor) (record_name actor)) n) ≡ (if hides actor (Some q) n then None else placed (Some q) f n)
+      seen : hides actor (Some g) n ≡ false → (if hides actor (Some g) n then None else placed (Some g)
+          (renamed f (new_name actor) (record_name actor)) n) ≡ (if hides actor (Some q) n then None else placed (Some q) f n)
       seen nay =
           let z : hides actor (Some q) n ≡ false = same_hides q g n t ns ∙ nay in
           let s = shown actor (Some g) n nay in
           let nowhere : (is_go g && has (names_of g) n) ≡ false = grind (arith, common_steps) in
-          rw (nay, z) (placed-out g (renamed f (new_name actor) (record_name actor)) n nowhere ∙ renamed_other f (new_name actor) (record_name actor) n s.not_new s.not_record ∙ sym (placed-prepare q f n go))
+          rw (nay, z) (placed-out g (renamed f (new_name actor) (record_name actor)) n nowhere
+          ∙ renamed_other f (new_name actor) (record_name actor) n s.not_new s.not_record ∙ sym (placed-prepare q f n go))
 
   -- the settled files after the decision, where each edit's outcome is staged
-  pub decided : (q g : Record) (es : List Edit) (n : List ℕ) → record_in (f (record_name actor)) ≡ Some q → is_go q ≡ false → record_in (f (new_name actor)) ≡ Some g → is_go g ≡ true → q.token ≡ g.token → names_of q ≡ names_of g → names_of g ≡ all_names es → IsDistinct es → ((e : Edit) → Mem e es → (is_record_name actor e.name ≡ false) × (is_lawful e.name ≡ true)) → ((e : Edit) → Mem e es → put_in (way_at g e.name) (f e.name) (f (staged_name g.token e.name)) ≡ outcome_of e (f e.name)) → settled actor (renamed f (new_name actor) (record_name actor)) n ≡ applied es (settled actor f) n
+  pub decided : (q g : Record) (es : List Edit) (n : List ℕ) → record_in (f (record_name actor)) ≡ Some q → is_go q ≡ false
+      → record_in (f (new_name actor)) ≡ Some g → is_go g ≡ true → q.token ≡ g.token → names_of q ≡ names_of g → names_of g ≡ all_names es
+      → IsDistinct es → ((e : Edit) → Mem e es → (is_record_name actor e.name ≡ false) × (is_lawful e.name ≡ true))
+      → ((e : Edit) → Mem e es → put_in (way_at g e.name) (f e.name) (f (staged_name g.token e.name)) ≡ outcome_of e (f e.name))
+      → settled actor (renamed f (new_name actor) (record_name actor)) n ≡ applied es (settled actor f) n
   decided q g es n e qgo new ggo t ns all distinct plain made = elim (cases_Bool (has (names_of g) n)) [ inl y ↦ among y | inr y ↦ other y ]
     where
       among : has (names_of g) n ≡ true → settled actor (renamed f (new_name actor) (record_name actor)) n ≡ applied es (settled actor f) n
@@ -111,4 +122,5 @@ module _ (actor : List ℕ) (f : Files) where
       other : has (names_of g) n ≡ false → settled actor (renamed f (new_name actor) (record_name actor)) n ≡ applied es (settled actor f) n
       other y =
           commit_other q g n e qgo new t ns y
-          ∙ sym (applied_other es n (settled actor f) (λ x m is. let w : has (names_of g) n ≡ true = Mem_has (names_of g) n (subst (Mem n) (sym all) (subst (λ (z : List ℕ). Mem z (all_names es)) is (names_Mem es x m))) in absurd (cc)))
+          ∙ sym (applied_other es n (settled actor f)
+          (λ x m is. let w : has (names_of g) n ≡ true = Mem_has (names_of g) n (subst (Mem n) (sym all) (subst (λ (z : List ℕ). Mem z (all_names es)) is (names_Mem es x m))) in absurd (cc)))

@@ -162,7 +162,8 @@ Knows j (Placing r x xs ls th) d = PartPlaced j.actor r (x ∷ xs) ls th d × Th
 Knows j (Testing r x xs ls) d = PartPlaced j.actor r (x ∷ xs) ls GoOn d × ThenOk j r GoOn d × IsLooked x.way
 Knows j (Removing r x xs ls th) d = PartPlaced j.actor r (x ∷ xs) ls th d × ThenOk j r th d × (x.way ≡ Remove) × IsStaged r x d
 Knows j (Extending r x xs ls th) d = PartPlaced j.actor r (x ∷ xs) ls th d × ThenOk j r th d × ((at : ℕ) × (x.way ≡ Extend at)) × IsStaged r x d
-Knows j (Discarding r x xs ls th) d = PartPlaced j.actor r (x ∷ xs) ls th d × ThenOk j r th d × (d.locks x.name ≡ Some r.token) × (put_in x.way (d.files x.name) (d.files (staged_name r.token x.name)) ≡ d.files x.name)
+Knows j (Discarding r x xs ls th) d = PartPlaced j.actor r (x ∷ xs) ls th d × ThenOk j r th d × (d.locks x.name ≡ Some r.token)
+    × (put_in x.way (d.files x.name) (d.files (staged_name r.token x.name)) ≡ d.files x.name)
 Knows j (Unlocking r n ns th) d = Closing j.actor r [] (n ∷ ns) d × Subset (n ∷ ns) (names_of r) × ThenOk j r th d
 Knows j (Erasing r th) d = Closing j.actor r [] [] d × ThenOk j r th d
 Knows j (Clearing found) d = Idle j None d

@@ -34,15 +34,18 @@ module _ (j : Job) (d : Disk) where
   knows_unlocking r [] th k sub t = (k, t)
   knows_unlocking r (n ∷ ns) th k sub t = (k, sub, t)
 
-  knows_removing : (r : Record) (x : Item) (xs : List Item) (ls : List (List ℕ)) (th : Then) → x.way ≡ Remove → PartPlaced j.actor r (x ∷ xs) ls th d → ThenOk j r th d → Knows j (removing r x xs ls th) d
+  knows_removing : (r : Record) (x : Item) (xs : List Item) (ls : List (List ℕ)) (th : Then) → x.way ≡ Remove → PartPlaced j.actor r (x ∷ xs) ls th d
+      → ThenOk j r th d → Knows j (removing r x xs ls th) d
   knows_removing r x xs ls GoOn way k t = (k, t, subst IsLooked (sym way) tt)
   knows_removing r x xs ls (Answer e) way k t = (k, t, way, k.staged x (inl refl))
 
-  knows_extending : (r : Record) (x : Item) (xs : List Item) (ls : List (List ℕ)) (th : Then) (at : ℕ) → x.way ≡ Extend at → PartPlaced j.actor r (x ∷ xs) ls th d → ThenOk j r th d → Knows j (extending r x xs ls th) d
+  knows_extending : (r : Record) (x : Item) (xs : List Item) (ls : List (List ℕ)) (th : Then) (at : ℕ) → x.way ≡ Extend at
+      → PartPlaced j.actor r (x ∷ xs) ls th d → ThenOk j r th d → Knows j (extending r x xs ls th) d
   knows_extending r x xs ls GoOn at way k t = (k, t, subst IsLooked (sym way) tt)
   knows_extending r x xs ls (Answer e) at way k t = (k, t, (at, way), k.staged x (inl refl))
 
-  knows_place_one : (way : Way) (r : Record) (x : Item) (xs : List Item) (ls : List (List ℕ)) (th : Then) → x.way ≡ way → PartPlaced j.actor r (x ∷ xs) ls th d → ThenOk j r th d → Knows j (place_one way r x xs ls th) d
+  knows_place_one : (way : Way) (r : Record) (x : Item) (xs : List Item) (ls : List (List ℕ)) (th : Then) → x.way ≡ way
+      → PartPlaced j.actor r (x ∷ xs) ls th d → ThenOk j r th d → Knows j (place_one way r x xs ls th) d
   knows_place_one Replace r x xs ls th is k t = (k, t, is)
   knows_place_one Remove r x xs ls th is k t = knows_removing r x xs ls th is k t
   knows_place_one (Extend at) r x xs ls th is k t = knows_extending r x xs ls th at is k t
@@ -51,12 +54,14 @@ module _ (j : Job) (d : Disk) where
   knows_placing r [] ls th k t = knows_unlocking r ls th k.closing k.locks_within t
   knows_placing r (x ∷ xs) ls th k t = knows_place_one x.way r x xs ls th refl k t
 
-  pub knows_undoing : (r : Record) (ns ls : List (List ℕ)) (th : Then) → Closing j.actor r ns ls d → is_go r ≡ false → Subset ns (names_of r) → Subset ls (names_of r) → ThenOk j r th d → Knows j (undoing r ns ls th) d
+  pub knows_undoing : (r : Record) (ns ls : List (List ℕ)) (th : Then) → Closing j.actor r ns ls d → is_go r ≡ false → Subset ns (names_of r)
+      → Subset ls (names_of r) → ThenOk j r th d → Knows j (undoing r ns ls th) d
   knows_undoing r [] ls th k go sub sub2 t = knows_unlocking r ls th k sub2 t
   knows_undoing r (n ∷ ns) ls th k go sub sub2 t = (k, go, sub, sub2, t)
 
   -- the clean-up of the own record
-  pub knows_refusing : (ns ls : List (List ℕ)) (why : Ending) (made left : List Made) → IsOwnEnd why → Own j ns ls made left d → Subset ns (all_of j) → Subset ls (all_of j) → Knows j (refusing j ns ls why) d
+  pub knows_refusing : (ns ls : List (List ℕ)) (why : Ending) (made left : List Made) → IsOwnEnd why → Own j ns ls made left d → Subset ns (all_of j)
+      → Subset ls (all_of j) → Knows j (refusing j ns ls why) d
   knows_refusing ns ls why made left own k sub sub2 =
       knows_undoing (prepare_of j) ns ls (Answer why) k.closing refl (to_prepare j ns sub) (to_prepare j ls sub2) (record { token = refl; names = names-prepare j; rest = k.rest; own_end = own })
 
@@ -124,8 +129,11 @@ module _ (j : Job) (d : Disk) where
       }
 
       go : (b : Bool) → is_go r ≡ b → Knows j (mending r) d
-      go true g = subst (λ (b : Bool). Knows j (if b then placing r (found_items r) (names_of r) GoOn else undoing r (names_of r) (names_of r) GoOn) d) (sym g) (knows_placing r (found_items r) (names_of r) GoOn (placed g) k.fresh)
-      go false g = subst (λ (b : Bool). Knows j (if b then placing r (found_items r) (names_of r) GoOn else undoing r (names_of r) (names_of r) GoOn) d) (sym g) (knows_undoing r (names_of r) (names_of r) GoOn whole g (same_set r) (same_set r) k.fresh)
+      go true g = subst (λ (b : Bool). Knows j
+          (if b then placing r (found_items r) (names_of r) GoOn else undoing r (names_of r) (names_of r) GoOn) d) (sym g) (knows_placing r (found_items r) (names_of r) GoOn (placed g) k.fresh)
+      go false g = subst (λ (b : Bool). Knows j
+          (if b then placing r (found_items r) (names_of r) GoOn else undoing r (names_of r) (names_of r) GoOn) d) (sym g)
+          (knows_undoing r (names_of r) (names_of r) GoOn whole g (same_set r) (same_set r) k.fresh)
 
   knows_record : (o : Option Record) → Clean j d → standing j.actor d ≡ o → Knows j (record_seen o) d
   knows_record None k e = k.fresh

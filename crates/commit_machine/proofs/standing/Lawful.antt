@@ -68,7 +68,11 @@ module _ (actor : List ℕ) (t : ℕ) (d : Disk) where
 
   free_unlocked : (l : Option ℕ) (v u : ℕ) → l ≢ Some u → unlocked l v ≢ Some u
   free_unlocked None v u h = h
-  free_unlocked (Some w) v u h = elim (cases_Bool (w == v)) [ inl y ↦ (λ e. let x : None ≡ Some u = sym (ap (λ (b : Bool). if b then None else Some w) y) ∙ e in absurd (cc)) | inr nay ↦ (λ e. h (sym (ap (λ (b : Bool). if b then None else Some w) nay) ∙ e)) ]
+  free_unlocked (Some w) v u h = elim (cases_Bool (w == v)) [
+    | inl y ↦
+        (λ e. let x : None ≡ Some u = sym (ap (λ (b : Bool). if b then None else Some w) y) ∙ e in absurd (cc))
+    | inr nay ↦ (λ e. h (sym (ap (λ (b : Bool). if b then None else Some w) nay) ∙ e))
+  ]
 
   at_lock : (P : Option ℕ → Type 0) (n m : List ℕ) (v : Option ℕ) → P (d.locks m) → (P (d.locks n) → P v) → P (with_at d.locks n v m)
   at_lock P n m v h stays = elim (same_or_not m n) [
@@ -106,7 +110,8 @@ module _ (actor : List ℕ) (t : ℕ) (d : Disk) where
   is_record : is_record_name actor (record_name actor) ≡ true
   is_record = rw (same_refl (record_name actor)) refl
 
-  write_fresh : (n : List ℕ) (c : Option (List ℕ)) (r : Record) → IsLawfulWrite actor t d n c → (standing actor d ≡ Some r → r.token ≢ t) → record_in (with_at d.files n c (record_name actor)) ≡ Some r → r.token ≢ t
+  write_fresh : (n : List ℕ) (c : Option (List ℕ)) (r : Record) → IsLawfulWrite actor t d n c → (standing actor d ≡ Some r → r.token ≢ t)
+      → record_in (with_at d.files n c (record_name actor)) ≡ Some r → r.token ≢ t
   write_fresh n c r law h e = elim (same_or_not (record_name actor) n) [
     | inl p ↦ law.fresh r (subst (λ (z : List ℕ). is_record_name actor z ≡ true) p.0 is_record) (sym (ap record_in (ap (with_at d.files n c) p.0 ∙ put_here d.files n c)) ∙ e)
     | inr p ↦ h (sym (ap record_in (put_there d.files n (record_name actor) c p.0)) ∙ e)

@@ -83,10 +83,20 @@ module _ (j : Job) (d d' : Disk) (keep : Keeps j.actor j.token d d') where
   others_staged r xs (Answer a) right e h = λ x mem. others_one r x right e (h x mem)
 
   others_placed : (r : Record) (xs : List Item) (ls : List (List ℕ)) (th : Then) → PartPlaced j.actor r xs ls th d → PartPlaced j.actor r xs ls th d'
-  others_placed r xs ls th k = record { closing = others_closing r (item_names xs) ls k.closing; go = k.go; within = k.within; locks_within = k.locks_within; distinct = k.distinct; ways = k.ways; staged = others_staged r xs th k.closing.right k.closing.stands k.staged }
+  others_placed r xs ls th k = record {
+    closing = others_closing r (item_names xs) ls k.closing;
+    go = k.go;
+    within = k.within;
+    locks_within =
+        k.locks_within;
+    distinct = k.distinct;
+    ways = k.ways;
+    staged = others_staged r xs th k.closing.right k.closing.stands k.staged;
+  }
 
   -- a file that is locked with the record's token stays what it has become
-  others_become : (r : Record) (x : Item) → Mem x.name (names_of r) → HasRight j.actor d → standing j.actor d ≡ Some r → d.locks x.name ≡ Some r.token → put_in x.way (d.files x.name) (d.files (staged_name r.token x.name)) ≡ d.files x.name
+  others_become : (r : Record) (x : Item) → Mem x.name (names_of r) → HasRight j.actor d → standing j.actor d ≡ Some r → d.locks x.name ≡ Some r.token
+      → put_in x.way (d.files x.name) (d.files (staged_name r.token x.name)) ≡ d.files x.name
       → put_in x.way (d'.files x.name) (d'.files (staged_name r.token x.name)) ≡ d'.files x.name
   others_become r x mem right e lock done =
       let found : KeepsRecord r d d' = keep.found r right e in
@@ -122,7 +132,12 @@ module _ (j : Job) (d d' : Disk) (keep : Keeps j.actor j.token d d') where
   others_knows (Testing r x xs ls) k = (others_placed r (x ∷ xs) ls GoOn k.0, others_fresh k.1, k.2)
   others_knows (Removing r x xs ls th) k = (others_placed r (x ∷ xs) ls th k.0, others_then r th k.1, k.2, others_one r x k.0.closing.right k.0.closing.stands k.3)
   others_knows (Extending r x xs ls th) k = (others_placed r (x ∷ xs) ls th k.0, others_then r th k.1, k.2, others_one r x k.0.closing.right k.0.closing.stands k.3)
-  others_knows (Discarding r x xs ls th) k = (others_placed r (x ∷ xs) ls th k.0, others_then r th k.1, (keep.found r k.0.closing.right k.0.closing.stands).lock x.name k.2, others_become r x (k.0.within.each x.name (inl refl)) k.0.closing.right k.0.closing.stands k.2 k.3)
+  others_knows (Discarding r x xs ls th) k = (
+    others_placed r (x ∷ xs) ls th k.0,
+    others_then r th k.1,
+    (keep.found r k.0.closing.right k.0.closing.stands).lock x.name k.2,
+    others_become r x (k.0.within.each x.name (inl refl)) k.0.closing.right k.0.closing.stands k.2 k.3,
+  )
   others_knows (Unlocking r n ns th) k = (others_closing r [] (n ∷ ns) k.0, k.1, others_then r th k.2)
   others_knows (Erasing r th) k = (others_closing r [] [] k.0, others_then r th k.1)
   others_knows (Clearing found) k = others_idle None k

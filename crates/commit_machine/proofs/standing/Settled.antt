@@ -36,7 +36,8 @@ pub any_staged : (t : ℕ) (n : List ℕ) (ns : List (List ℕ)) → list_any (�
 any_staged t n [] h = absurd (cc)
 any_staged t n (k ∷ ks) h = go (cases_Bool (bytes_eq n (staged_name t k))) (any_staged t n ks)
   where
-    go : (bytes_eq n (staged_name t k) ≡ true) ⊎ (bytes_eq n (staged_name t k) ≡ false) → (list_any (λ k. bytes_eq n (staged_name t k)) ks ≡ true → (m : List ℕ) × Mem m ks × (n ≡ staged_name t m)) → (m : List ℕ) × Mem m (k ∷ ks) × (n ≡ staged_name t m)
+    go : (bytes_eq n (staged_name t k) ≡ true) ⊎ (bytes_eq n (staged_name t k) ≡ false)
+        → (list_any (λ k. bytes_eq n (staged_name t k)) ks ≡ true → (m : List ℕ) × Mem m ks × (n ≡ staged_name t m)) → (m : List ℕ) × Mem m (k ∷ ks) × (n ≡ staged_name t m)
     go (inl y) more = (k, inl refl, same_true n (staged_name t k) y)
     go (inr nay) more = let w = more (rw nay at h) in (w.0, inr w.1, w.2)
 
@@ -64,7 +65,8 @@ pub settled_at : (actor : List ℕ) (f : Files) (n : List ℕ) (o : Option Recor
 settled_at actor f n o e = ap (λ (z : Option Record). if hides actor z n then None else placed z f n) e
 
 -- where the record stays, what is put in place decides
-pub same_settled : (actor : List ℕ) (f g : Files) (n : List ℕ) (o : Option Record) → record_in (f (record_name actor)) ≡ o → g (record_name actor) ≡ f (record_name actor) → (IsShown actor o n → placed o g n ≡ placed o f n) → settled actor g n ≡ settled actor f n
+pub same_settled : (actor : List ℕ) (f g : Files) (n : List ℕ) (o : Option Record) → record_in (f (record_name actor)) ≡ o
+    → g (record_name actor) ≡ f (record_name actor) → (IsShown actor o n → placed o g n ≡ placed o f n) → settled actor g n ≡ settled actor f n
 same_settled actor f g n o is e h =
     settled_at actor g n o (ap record_in e ∙ is)
     ∙ elim (cases_Bool (hides actor o n)) [ inl y ↦ rw y refl | inr nay ↦ rw nay (h (shown actor o n nay)) ]
@@ -79,7 +81,8 @@ placed-prepare r f n h = placed-out r f n (ap (λ (b : Bool). b && has (names_of
 pub placed-in : (r : Record) (f : Files) (n : List ℕ) → is_go r ≡ true → has (names_of r) n ≡ true → placed (Some r) f n ≡ put_in (way_at r n) (f n) (f (staged_name r.token n))
 placed-in r f n g h = let both : (is_go r && has (names_of r) n) ≡ true = rw (g, h) refl in rw both refl
 
-placed_same : (o : Option Record) (f g : Files) (n : List ℕ) → g n ≡ f n → ((r : Record) → o ≡ Some r → is_go r ≡ true → Mem n (names_of r) → g (staged_name r.token n) ≡ f (staged_name r.token n)) → placed o g n ≡ placed o f n
+placed_same : (o : Option Record) (f g : Files) (n : List ℕ) → g n ≡ f n
+    → ((r : Record) → o ≡ Some r → is_go r ≡ true → Mem n (names_of r) → g (staged_name r.token n) ≡ f (staged_name r.token n)) → placed o g n ≡ placed o f n
 placed_same None f g n e h = e
 placed_same (Some r) f g n e h = elim (cases_Bool (is_go r && has (names_of r) n)) [ inl y ↦ among y | inr nay ↦ placed-out r g n nay ∙ e ∙ sym (placed-out r f n nay) ]
   where
@@ -94,7 +97,8 @@ placed_same (Some r) f g n e h = elim (cases_Bool (is_go r && has (names_of r) n
 -- a write to the staging of the record
 pub keep_new : (actor : List ℕ) (f : Files) (c : Option (List ℕ)) (n : List ℕ) → settled actor (with_at f (new_name actor) c) n ≡ settled actor f n
 keep_new actor f c n = same_settled actor f (with_at f (new_name actor) c) n (record_in (f (record_name actor))) refl (put_there f (new_name actor) (record_name actor) c (record-new actor))
-    (λ s. placed_same (record_in (f (record_name actor))) f (with_at f (new_name actor) c) n (put_there f (new_name actor) n c s.not_new) (λ r e go m. put_there f (new_name actor) (staged_name r.token n) c (staged-new r.token n actor)))
+    (λ s. placed_same (record_in (f (record_name actor))) f (with_at f (new_name actor) c) n (put_there f (new_name actor) n c s.not_new)
+    (λ r e go m. put_there f (new_name actor) (staged_name r.token n) c (staged-new r.token n actor)))
 
 length-take-of : (n : ℕ) (xs : List ℕ) → n ≤ length xs → length (take n xs) ≡ n
 length-take-of zero xs l = refl
@@ -105,8 +109,10 @@ pub record-staged : (t : ℕ) (m actor : List ℕ) → record_name actor ≢ sta
 record-staged t m actor e = staged-record t m actor (sym e)
 
 -- a write to a staged file of a record that is not decided
-pub keep_staged : (actor : List ℕ) (f : Files) (r : Record) (c : Option (List ℕ)) (m n : List ℕ) → record_in (f (record_name actor)) ≡ Some r → is_go r ≡ false → Mem m (names_of r) → settled actor (with_at f (staged_name r.token m) c) n ≡ settled actor f n
-keep_staged actor f r c m n e go mem = same_settled actor f (with_at f (staged_name r.token m) c) n (Some r) e (put_there f (staged_name r.token m) (record_name actor) c (record-staged r.token m actor))
+pub keep_staged : (actor : List ℕ) (f : Files) (r : Record) (c : Option (List ℕ)) (m n : List ℕ) → record_in (f (record_name actor)) ≡ Some r
+    → is_go r ≡ false → Mem m (names_of r) → settled actor (with_at f (staged_name r.token m) c) n ≡ settled actor f n
+keep_staged actor f r c m n e go mem = same_settled actor f (with_at f (staged_name r.token m) c) n (Some r) e
+    (put_there f (staged_name r.token m) (record_name actor) c (record-staged r.token m actor))
     (λ s. placed-prepare r (with_at f (staged_name r.token m) c) n go ∙ put_there f (staged_name r.token m) n c (s.not_staged r m refl mem) ∙ sym (placed-prepare r f n go))
 
 -- a file takes another name
@@ -155,7 +161,8 @@ stays at (Some bytes) tail = go (nat_le at (length bytes)) refl
 
 pub put_in_extended : (w : Way) (at : ℕ) (file staged : Option (List ℕ)) (tail : List ℕ) → is_some staged ≡ true → w ≡ Extend at → put_in w (extended file at tail) staged ≡ put_in w file staged
 put_in_extended (Extend at) b file None tail h e = absurd (cc)
-put_in_extended (Extend at) b file (Some bytes) tail h e = let same : at ≡ b = cc in ap (λ (front : List ℕ). Some (front ++ bytes)) (subst (λ (k : ℕ). take at (bytes_of (extended file k tail)) ≡ take at (bytes_of file)) same (stays at file tail))
+put_in_extended (Extend at) b file (Some bytes) tail h e = let same : at ≡ b = cc in
+    ap (λ (front : List ℕ). Some (front ++ bytes)) (subst (λ (k : ℕ). take at (bytes_of (extended file k tail)) ≡ take at (bytes_of file)) same (stays at file tail))
 put_in_extended Replace b file staged tail h e = absurd (cc)
 put_in_extended Remove b file staged tail h e = absurd (cc)
 
@@ -176,8 +183,11 @@ extended_reaches at k (Some bytes) tail same h = go (nat_le at (length bytes)) r
     go false is = h
 
 -- the staged file of a decided record is put in place
-pub keep_place : (actor : List ℕ) (f : Files) (r : Record) (m n : List ℕ) → record_in (f (record_name actor)) ≡ Some r → is_go r ≡ true → Mem m (names_of r) → m ≢ record_name actor → is_lawful m ≡ true → way_at r m ≡ Replace → is_some (f (staged_name r.token m)) ≡ true → settled actor (renamed f (staged_name r.token m) m) n ≡ settled actor f n
-keep_place actor f r m n e go mem plain law way stands = same_settled actor f g n (Some r) e (renamed_other f staged m (record_name actor) (record-staged r.token m actor) (λ p. plain (sym p))) (λ s. put s (same_or_not n m))
+pub keep_place : (actor : List ℕ) (f : Files) (r : Record) (m n : List ℕ) → record_in (f (record_name actor)) ≡ Some r → is_go r ≡ true
+    → Mem m (names_of r) → m ≢ record_name actor → is_lawful m ≡ true → way_at r m ≡ Replace → is_some (f (staged_name r.token m)) ≡ true
+    → settled actor (renamed f (staged_name r.token m) m) n ≡ settled actor f n
+keep_place actor f r m n e go mem plain law way stands =
+    same_settled actor f g n (Some r) e (renamed_other f staged m (record_name actor) (record-staged r.token m actor) (λ p. plain (sym p))) (λ s. put s (same_or_not n m))
   where
     staged : List ℕ
     staged = staged_name r.token m
@@ -203,7 +213,9 @@ keep_place actor f r m n e go mem plain law way stands = same_settled actor f g 
         (renamed_other f (staged_name r.token m) m (staged_name r.token n) (λ w. p.0 (staged-one r.token n m w)) (λ w. lawful-staged m r.token n law (sym w))))
 
 -- the file of an entry of a decided record is changed on its way to what it becomes
-pub keep_file : (actor : List ℕ) (f : Files) (r : Record) (c : Option (List ℕ)) (m n : List ℕ) → record_in (f (record_name actor)) ≡ Some r → is_go r ≡ true → Mem m (names_of r) → m ≢ record_name actor → is_lawful m ≡ true → put_in (way_at r m) c (f (staged_name r.token m)) ≡ put_in (way_at r m) (f m) (f (staged_name r.token m)) → settled actor (with_at f m c) n ≡ settled actor f n
+pub keep_file : (actor : List ℕ) (f : Files) (r : Record) (c : Option (List ℕ)) (m n : List ℕ) → record_in (f (record_name actor)) ≡ Some r
+    → is_go r ≡ true → Mem m (names_of r) → m ≢ record_name actor → is_lawful m ≡ true
+    → put_in (way_at r m) c (f (staged_name r.token m)) ≡ put_in (way_at r m) (f m) (f (staged_name r.token m)) → settled actor (with_at f m c) n ≡ settled actor f n
 keep_file actor f r c m n e go mem plain law way = same_settled actor f g n (Some r) e (put_there f m (record_name actor) c (λ p. plain (sym p))) (λ s. put (same_or_not n m))
   where
     g : Files
@@ -229,8 +241,10 @@ keep_file actor f r c m n e go mem plain law way = same_settled actor f g n (Som
         subst (λ (z : Record). g (staged_name z.token n) ≡ f (staged_name z.token n)) same (staged_same n))
 
 -- the staged file of an entry of a decided record is taken away once the file is what it becomes
-pub keep_clear : (actor : List ℕ) (f : Files) (r : Record) (m n : List ℕ) → record_in (f (record_name actor)) ≡ Some r → is_go r ≡ true → Mem m (names_of r) → put_in (way_at r m) (f m) (f (staged_name r.token m)) ≡ f m → settled actor (with_at f (staged_name r.token m) None) n ≡ settled actor f n
-keep_clear actor f r m n e go mem done = same_settled actor f g n (Some r) e (put_there f (staged_name r.token m) (record_name actor) None (record-staged r.token m actor)) (λ s. put s (same_or_not n m))
+pub keep_clear : (actor : List ℕ) (f : Files) (r : Record) (m n : List ℕ) → record_in (f (record_name actor)) ≡ Some r → is_go r ≡ true
+    → Mem m (names_of r) → put_in (way_at r m) (f m) (f (staged_name r.token m)) ≡ f m → settled actor (with_at f (staged_name r.token m) None) n ≡ settled actor f n
+keep_clear actor f r m n e go mem done =
+    same_settled actor f g n (Some r) e (put_there f (staged_name r.token m) (record_name actor) None (record-staged r.token m actor)) (λ s. put s (same_or_not n m))
   where
     g : Files
     g = with_at f (staged_name r.token m) None
@@ -252,7 +266,8 @@ keep_clear actor f r m n e go mem done = same_settled actor f g n (Some r) e (pu
         (put_there f (staged_name r.token m) (staged_name r.token n) None (λ w. p.0 (staged-one r.token n m w))))
 
 -- the record is erased once nothing is left to do
-pub keep_erase : (actor : List ℕ) (f : Files) (r : Record) (n : List ℕ) → record_in (f (record_name actor)) ≡ Some r → ((m : List ℕ) → Mem m (names_of r) → f (staged_name r.token m) ≡ None) → settled actor (with_at f (record_name actor) None) n ≡ settled actor f n
+pub keep_erase : (actor : List ℕ) (f : Files) (r : Record) (n : List ℕ) → record_in (f (record_name actor)) ≡ Some r
+    → ((m : List ℕ) → Mem m (names_of r) → f (staged_name r.token m) ≡ None) → settled actor (with_at f (record_name actor) None) n ≡ settled actor f n
 keep_erase actor f r n e gone =
     settled_at actor g n None (ap record_in (put_here f (record_name actor) None))
     ∙ elim (cases_Bool (is_record_name actor n)) [ inl y ↦ hidden y | inr nay ↦ seen nay ]
@@ -280,7 +295,8 @@ keep_erase actor f r n e gone =
     ])
 
 -- a Prepare record takes its place where none stood
-pub keep_prepare : (actor : List ℕ) (f : Files) (r : Record) (n : List ℕ) → record_in (f (record_name actor)) ≡ None → is_go r ≡ false → record_in (f (new_name actor)) ≡ Some r → ((m : List ℕ) → f (staged_name r.token m) ≡ None) → settled actor (renamed f (new_name actor) (record_name actor)) n ≡ settled actor f n
+pub keep_prepare : (actor : List ℕ) (f : Files) (r : Record) (n : List ℕ) → record_in (f (record_name actor)) ≡ None → is_go r ≡ false
+    → record_in (f (new_name actor)) ≡ Some r → ((m : List ℕ) → f (staged_name r.token m) ≡ None) → settled actor (renamed f (new_name actor) (record_name actor)) n ≡ settled actor f n
 keep_prepare actor f r n e go new fresh =
     settled_at actor g n (Some r) (ap record_in (renamed_to f (new_name actor) (record_name actor)) ∙ new)
     ∙ elim (cases_Bool (is_record_name actor n)) [ inl y ↦ rw y refl | inr nay ↦ seen nay ]

@@ -41,7 +41,8 @@ sound_new actor f l c s = sound_same actor f (with_at f (new_name actor) c) l l 
 undecided : (o : Option Record) (q r : Record) → o ≡ Some r → is_go r ≡ false → o ≡ Some q → is_go q ≡ true → ⊥
 undecided o q r e g eq gq = let same : q ≡ r = cc in let w : is_go r ≡ true = subst (λ (z : Record). is_go z ≡ true) same gq in absurd (cc)
 
-pub sound_staged : (actor : List ℕ) (f : Files) (l : Locks) (r : Record) (c : Option (List ℕ)) (m : List ℕ) → record_in (f (record_name actor)) ≡ Some r → is_go r ≡ false → IsSoundAt actor f l → IsSoundAt actor (with_at f (staged_name r.token m) c) l
+pub sound_staged : (actor : List ℕ) (f : Files) (l : Locks) (r : Record) (c : Option (List ℕ)) (m : List ℕ)
+    → record_in (f (record_name actor)) ≡ Some r → is_go r ≡ false → IsSoundAt actor f l → IsSoundAt actor (with_at f (staged_name r.token m) c) l
 sound_staged actor f l r c m e g s = sound_same actor f (with_at f (staged_name r.token m) c) l l (put_there f (staged_name r.token m) (record_name actor) c (record-staged r.token m actor))
     (λ q n is go mem some. absurd (undecided (record_in (f (record_name actor))) q r e g is go)) s
 
@@ -68,13 +69,15 @@ abbrev pub KeepsLong : List ℕ → Files → Files → List ℕ → Type 0
 KeepsLong actor f g m = (q : Record) (at : ℕ) → record_in (f (record_name actor)) ≡ Some q → way_at q m ≡ Extend at → reaches at (f m) ≡ true → reaches at (g m) ≡ true
 
 -- it isn't extended
-pub keeps_way : (actor : List ℕ) (f g : Files) (r : Record) (m : List ℕ) (way : Way) → ((at : ℕ) → way ≡ Extend at → ⊥) → record_in (f (record_name actor)) ≡ Some r → way_at r m ≡ way → KeepsLong actor f g m
+pub keeps_way : (actor : List ℕ) (f g : Files) (r : Record) (m : List ℕ) (way : Way) → ((at : ℕ) → way ≡ Extend at → ⊥)
+    → record_in (f (record_name actor)) ≡ Some r → way_at r m ≡ way → KeepsLong actor f g m
 keeps_way actor f g r m way other is so q at is2 extends h =
     let same : q ≡ r = cc in
     absurd (other at (sym so ∙ subst (λ (z : Record). way_at z m ≡ Extend at) same extends))
 
 -- a file with another name keeps its length, and this one does
-keeps_both : (actor : List ℕ) (f g : Files) (m : List ℕ) → KeepsLong actor f g m → (q : Record) (n : List ℕ) (at : ℕ) → record_in (f (record_name actor)) ≡ Some q → way_at q n ≡ Extend at → (n ≢ m → g n ≡ f n) → reaches at (f n) ≡ true → reaches at (g n) ≡ true
+keeps_both : (actor : List ℕ) (f g : Files) (m : List ℕ) → KeepsLong actor f g m → (q : Record) (n : List ℕ) (at : ℕ)
+    → record_in (f (record_name actor)) ≡ Some q → way_at q n ≡ Extend at → (n ≢ m → g n ≡ f n) → reaches at (f n) ≡ true → reaches at (g n) ≡ true
 keeps_both actor f g m keeps q n at is way same h = elim (same_or_not n m) [
   | inl p ↦
       let there : reaches at (g m) ≡ true = keeps q at is (subst (λ (z : List ℕ). way_at q z ≡ Extend at) p.0 way) (subst (λ (z : List ℕ). reaches at (f z) ≡ true) p.0 h) in
@@ -83,16 +86,20 @@ keeps_both actor f g m keeps q n at is way same h = elim (same_or_not n m) [
 ]
 
 -- the staged file of a decided record is put in place
-pub sound_place : (actor : List ℕ) (f : Files) (l : Locks) (t : ℕ) (m : List ℕ) → m ≢ record_name actor → is_lawful m ≡ true → KeepsLong actor f (renamed f (staged_name t m) m) m → IsSoundAt actor f l → IsSoundAt actor (renamed f (staged_name t m) m) l
-sound_place actor f l t m plain law keeps s = sound_same actor f (renamed f (staged_name t m) m) l l (renamed_other f (staged_name t m) m (record_name actor) (record-staged t m actor) (λ p. plain (sym p)))
+pub sound_place : (actor : List ℕ) (f : Files) (l : Locks) (t : ℕ) (m : List ℕ) → m ≢ record_name actor → is_lawful m ≡ true
+    → KeepsLong actor f (renamed f (staged_name t m) m) m → IsSoundAt actor f l → IsSoundAt actor (renamed f (staged_name t m) m) l
+sound_place actor f l t m plain law keeps s =
+    sound_same actor f (renamed f (staged_name t m) m) l l (renamed_other f (staged_name t m) m (record_name actor) (record-staged t m actor) (λ p. plain (sym p)))
     (λ q n is go mem some. (
       renamed_some f (staged_name t m) m (staged_name q.token n) (λ w. lawful-staged m q.token n law (sym w)) some,
       λ e. e,
-      λ at way h. keeps_both actor f (renamed f (staged_name t m) m) m keeps q n at is way (λ other. renamed_other f (staged_name t m) m n (lawful-staged n t m (stands-lawful (f (record_name actor)) q n is mem)) other) h,
+      λ at way h. keeps_both actor f (renamed f (staged_name t m) m) m keeps q n at is way
+          (λ other. renamed_other f (staged_name t m) m n (lawful-staged n t m (stands-lawful (f (record_name actor)) q n is mem)) other) h,
     )) s
 
 -- the file of an entry is changed
-pub sound_file : (actor : List ℕ) (f : Files) (l : Locks) (c : Option (List ℕ)) (m : List ℕ) → m ≢ record_name actor → is_lawful m ≡ true → KeepsLong actor f (with_at f m c) m → IsSoundAt actor f l → IsSoundAt actor (with_at f m c) l
+pub sound_file : (actor : List ℕ) (f : Files) (l : Locks) (c : Option (List ℕ)) (m : List ℕ) → m ≢ record_name actor → is_lawful m ≡ true
+    → KeepsLong actor f (with_at f m c) m → IsSoundAt actor f l → IsSoundAt actor (with_at f m c) l
 sound_file actor f l c m plain law keeps s = sound_same actor f (with_at f m c) l l (put_there f m (record_name actor) c (λ p. plain (sym p)))
     (λ q n is go mem some. (
       subst (λ (z : Option (List ℕ)). is_some z ≡ true) (put_there f m (staged_name q.token n) c (λ w. lawful-staged m q.token n law (sym w))) some,
@@ -110,7 +117,8 @@ sound_clear actor f l t m s = sound_same actor f (with_at f (staged_name t m) No
     )) s
 
 -- a name whose staged file is gone is unlocked
-pub sound_unlock : (actor : List ℕ) (f : Files) (l : Locks) (r : Record) (m : List ℕ) → record_in (f (record_name actor)) ≡ Some r → f (staged_name r.token m) ≡ None → IsSoundAt actor f l → IsSoundAt actor f (with_at l m None)
+pub sound_unlock : (actor : List ℕ) (f : Files) (l : Locks) (r : Record) (m : List ℕ) → record_in (f (record_name actor)) ≡ Some r
+    → f (staged_name r.token m) ≡ None → IsSoundAt actor f l → IsSoundAt actor f (with_at l m None)
 sound_unlock actor f l r m e gone s = sound_same actor f f l (with_at l m None) refl
     (λ q n is go mem some. (some, λ h. put_there l m n None (λ p. other q n is some p) ∙ h, λ at way h. h)) s
   where
@@ -145,13 +153,15 @@ lock_free r n l h = elim (cases_Bool (has (names_of r) n && owned_by r.token l))
   | inr nay ↦ rw nay refl
 ]
 
-pub lock_erase : (actor : List ℕ) (f : Files) (l : Locks) (r : Record) (n : List ℕ) → record_in (f (record_name actor)) ≡ Some r → ((m : List ℕ) → Mem m (names_of r) → l m ≢ Some r.token) → settled_lock actor (with_at f (record_name actor) None) l n ≡ settled_lock actor f l n
+pub lock_erase : (actor : List ℕ) (f : Files) (l : Locks) (r : Record) (n : List ℕ) → record_in (f (record_name actor)) ≡ Some r
+    → ((m : List ℕ) → Mem m (names_of r) → l m ≢ Some r.token) → settled_lock actor (with_at f (record_name actor) None) l n ≡ settled_lock actor f l n
 lock_erase actor f l r n e free =
     ap (λ (o : Option Record). unlocked o n (l n)) (ap record_in (put_here f (record_name actor) None))
     ∙ sym (lock_free r n (l n) (free n))
     ∙ ap (λ (o : Option Record). unlocked o n (l n)) (sym e)
 
-pub lock_prepare : (actor : List ℕ) (f : Files) (l : Locks) (r : Record) (n : List ℕ) → record_in (f (record_name actor)) ≡ None → record_in (f (new_name actor)) ≡ Some r → ((m : List ℕ) → l m ≢ Some r.token) → settled_lock actor (renamed f (new_name actor) (record_name actor)) l n ≡ settled_lock actor f l n
+pub lock_prepare : (actor : List ℕ) (f : Files) (l : Locks) (r : Record) (n : List ℕ) → record_in (f (record_name actor)) ≡ None
+    → record_in (f (new_name actor)) ≡ Some r → ((m : List ℕ) → l m ≢ Some r.token) → settled_lock actor (renamed f (new_name actor) (record_name actor)) l n ≡ settled_lock actor f l n
 lock_prepare actor f l r n e new free =
     ap (λ (o : Option Record). unlocked o n (l n)) (ap record_in (renamed_to f (new_name actor) (record_name actor)) ∙ new)
     ∙ lock_free r n (l n) (λ h. free n)
@@ -162,7 +172,8 @@ same_unlocked q g n l t ns =
     ap (λ (u : ℕ). if has (names_of g) n && owned_by u l then None else l) (sym t)
     ∙ ap (λ (ms : List (List ℕ)). if has ms n && owned_by q.token l then None else l) (sym ns)
 
-pub lock_commit : (actor : List ℕ) (f : Files) (l : Locks) (q g : Record) (n : List ℕ) → record_in (f (record_name actor)) ≡ Some q → record_in (f (new_name actor)) ≡ Some g → q.token ≡ g.token → names_of q ≡ names_of g → settled_lock actor (renamed f (new_name actor) (record_name actor)) l n ≡ settled_lock actor f l n
+pub lock_commit : (actor : List ℕ) (f : Files) (l : Locks) (q g : Record) (n : List ℕ) → record_in (f (record_name actor)) ≡ Some q
+    → record_in (f (new_name actor)) ≡ Some g → q.token ≡ g.token → names_of q ≡ names_of g → settled_lock actor (renamed f (new_name actor) (record_name actor)) l n ≡ settled_lock actor f l n
 lock_commit actor f l q g n e new t ns =
     ap (λ (o : Option Record). unlocked o n (l n)) (ap record_in (renamed_to f (new_name actor) (record_name actor)) ∙ new)
     ∙ same_unlocked q g n (l n) t ns
@@ -176,7 +187,8 @@ no_lock r m l mem (inr e) =
     rw both refl
 
 -- such a lock is put or taken away
-pub lock_own : (actor : List ℕ) (f : Files) (l : Locks) (r : Record) (m n : List ℕ) (v : Option ℕ) → record_in (f (record_name actor)) ≡ Some r → Mem m (names_of r) → (l m ≡ None) ⊎ (l m ≡ Some r.token) → (v ≡ None) ⊎ (v ≡ Some r.token) → settled_lock actor f (with_at l m v) n ≡ settled_lock actor f l n
+pub lock_own : (actor : List ℕ) (f : Files) (l : Locks) (r : Record) (m n : List ℕ) (v : Option ℕ) → record_in (f (record_name actor)) ≡ Some r
+    → Mem m (names_of r) → (l m ≡ None) ⊎ (l m ≡ Some r.token) → (v ≡ None) ⊎ (v ≡ Some r.token) → settled_lock actor f (with_at l m v) n ≡ settled_lock actor f l n
 lock_own actor f l r m n v e mem old new = elim (same_or_not n m) [
   | inl p ↦ (
       ap (λ (o : Option Record). unlocked o n (with_at l m v n)) e

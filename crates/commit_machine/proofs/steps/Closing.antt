@@ -32,7 +32,8 @@ owner_is t (Some u) h = let e : u ≡ t = eqb-true u t h in ap (λ (x : ℕ). So
 owner_not : (t : ℕ) (l : Option ℕ) → is_owner t l ≡ false → l ≢ Some t
 owner_not t l h e = let w : is_owner t l ≡ true = rw e (grind (arith, common_steps)) in absurd (cc)
 
-module _ (j : Job) (job : IsJob j) (d : Disk) (files : Files) (owners : Locks) (settles : (n : List ℕ) → settled_files j.actor d n ≡ files n) (locked : (n : List ℕ) → settled_locks j.actor d n ≡ owners n) (sound : IsSound j.actor d) where
+module _ (j : Job) (job : IsJob j) (d : Disk) (files : Files) (owners : Locks) (settles : (n : List ℕ) → settled_files j.actor d n ≡ files n)
+    (locked : (n : List ℕ) → settled_locks j.actor d n ≡ owners n) (sound : IsSound j.actor d) where
   module _ (r : Record) (n : List ℕ) (ns : List (List ℕ)) (th : Then) (k : Knows j (Unlocking r n ns th) d) where
     unlock_shows : (failed : Bool) → is_owner r.token (d.locks n) ≡ true → Shows j (event.Unlock n r.token true failed) d files owners
     unlock_shows failed owned = record {
@@ -62,10 +63,12 @@ module _ (j : Job) (job : IsJob j) (d : Disk) (files : Files) (owners : Locks) (
         (record { right = k.0.right; stands = k.0.stands; gone = k.0.gone; free = λ m h. pass_free m not (k.0.free m h) })
         (record { each = λ m h. k.1.each m (inr h) }) k.2
 
-  pub step_unlocking : (r : Record) (n : List ℕ) (ns : List (List ℕ)) (th : Then) {e : Event} → IsOf (ToUnlock n r.token) e → Agrees d e → Knows j (Unlocking r n ns th) d → Kept j (Unlocking r n ns th) e d files owners
+  pub step_unlocking : (r : Record) (n : List ℕ) (ns : List (List ℕ)) (th : Then) {e : Event} → IsOf (ToUnlock n r.token) e → Agrees d e
+      → Knows j (Unlocking r n ns th) d → Kept j (Unlocking r n ns th) e d files owners
   step_unlocking r n ns th (unlocks {done = true} {failed = true}) agrees k = record { shows = unlock_shows r n ns th k true (agrees refl); knows = tt }
   step_unlocking r n ns th (unlocks {done = false} {failed = true}) agrees k = record { shows = record { settles = settles; locked = locked; sound = sound }; knows = tt }
-  step_unlocking r n ns th (unlocks {done = false} {failed = false}) agrees k = record { shows = record { settles = settles; locked = locked; sound = sound }; knows = pass_knows r n ns th k (sym agrees) }
+  step_unlocking r n ns th (unlocks {done = false} {failed = false}) agrees k =
+      record { shows = record { settles = settles; locked = locked; sound = sound }; knows = pass_knows r n ns th k (sym agrees) }
   step_unlocking r n ns th (unlocks {done = true} {failed = false}) agrees k = record { shows = unlock_shows r n ns th k false (sym agrees); knows = unlock_knows r n ns th k }
 
   module _ (r : Record) (th : Then) (k : Knows j (Erasing r th) d) where

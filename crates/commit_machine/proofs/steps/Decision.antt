@@ -36,12 +36,14 @@ use Rattle.commit_machine.proofs.steps.OwnRecord
 some-one : {A : Type 0} (a b : A) → Some a ≡ Some b → a ≡ b
 some-one a b e = cc
 
-pub a_decision : (j : Job) (d : Disk) (files : Files) (r : Record) (failed : Bool) (n : List ℕ) → record_in (d.files (new_name j.actor)) ≡ Some r → is_go r ≡ true → r.token ≡ j.token → files_then j (event.Publish (new_name j.actor) (record_name j.actor) true failed) d files n ≡ applied (edits_of j) files n
+pub a_decision : (j : Job) (d : Disk) (files : Files) (r : Record) (failed : Bool) (n : List ℕ) → record_in (d.files (new_name j.actor)) ≡ Some r
+    → is_go r ≡ true → r.token ≡ j.token → files_then j (event.Publish (new_name j.actor) (record_name j.actor) true failed) d files n ≡ applied (edits_of j) files n
 a_decision j d files r failed n e go t =
     let same : (r.token == j.token) ≡ true = rw t (grind (arith, common_steps)) in
     rw (same_refl (new_name j.actor), same_refl (record_name j.actor), e, go, same) refl
 
-module _ (j : Job) (job : IsJob j) (d : Disk) (files : Files) (owners : Locks) (settles : (n : List ℕ) → settled_files j.actor d n ≡ files n) (locked : (n : List ℕ) → settled_locks j.actor d n ≡ owners n) (sound : IsSound j.actor d) where
+module _ (j : Job) (job : IsJob j) (d : Disk) (files : Files) (owners : Locks) (settles : (n : List ℕ) → settled_files j.actor d n ≡ files n)
+    (locked : (n : List ℕ) → settled_locks j.actor d n ≡ owners n) (sound : IsSound j.actor d) where
   module _ (made : List Made) (k : Knows j (Deciding made) d) where
     decide_seen : (y : Made) → Mem y made → with_at d.files (new_name j.actor) (Some (written (go_of j made))) y.edit.name ≡ y.seen
     decide_seen y h =
@@ -57,7 +59,13 @@ module _ (j : Job) (job : IsJob j) (d : Disk) (files : Files) (owners : Locks) (
     decide_knows : Knows j (Committing made) (after d (event.Stage (new_name j.actor) (Some (written (go_of j made))) false))
     decide_knows = (
       record {
-        closing = record { right = k.0.closing.right; stands = decide_stands; gone = λ m h. elim (k.0.closing.gone m h) [ inl a ↦ inl a | inr b ↦ inr (new_leaves j.token m ∙ b) ]; free = k.0.closing.free };
+        closing = record {
+          right = k.0.closing.right;
+          stands = decide_stands;
+          gone =
+              λ m h. elim (k.0.closing.gone m h) [ inl a ↦ inl a | inr b ↦ inr (new_leaves j.token m ∙ b) ];
+          free = k.0.closing.free;
+        };
         rest = record { staged = λ m. elim (k.0.rest.staged m) [ inl a ↦ inl a | inr b ↦ inr (new_leaves j.token m ∙ b) ]; locks = k.0.rest.locks };
         locked = k.0.locked;
         seen = decide_seen;
@@ -68,8 +76,14 @@ module _ (j : Job) (job : IsJob j) (d : Disk) (files : Files) (owners : Locks) (
     )
 
   pub step_deciding : (made : List Made) {e : Event} → IsOf (ToStage (new_name j.actor) (written (go_of j made))) e → Knows j (Deciding made) d → Kept j (Deciding made) e d files owners
-  step_deciding made stages k = record { shows = OwnRecord.new_shows j job d files owners settles locked sound (event.Stage (new_name j.actor) (Some (written (go_of j made))) false) (Some (written (go_of j made))) refl (λ n. refl); knows = decide_knows made k }
-  step_deciding made (stage_fails {left = c}) k = record { shows = OwnRecord.new_shows j job d files owners settles locked sound (event.Stage (new_name j.actor) c true) c refl (λ n. refl); knows = tt }
+  step_deciding made stages k = record {
+    shows =
+        OwnRecord.new_shows j job d files owners settles locked sound (event.Stage (new_name j.actor) (Some (written (go_of j made))) false)
+        (Some (written (go_of j made))) refl (λ n. refl);
+    knows = decide_knows made k;
+  }
+  step_deciding made (stage_fails {left = c}) k =
+      record { shows = OwnRecord.new_shows j job d files owners settles locked sound (event.Stage (new_name j.actor) c true) c refl (λ n. refl); knows = tt }
 
   module _ (made : List Made) (k : Knows j (Committing made) d) where
     prepare_valid : is_valid (prepare_of j) ≡ true
@@ -94,7 +108,8 @@ module _ (j : Job) (job : IsJob j) (d : Disk) (files : Files) (owners : Locks) (
     go_numbers = numbers-entries (λ n. way_made (made_at made n)) (all_of j) (λ n at e. (made_extends n at e).4)
 
     pub new_go : record_in (d.files (new_name j.actor)) ≡ Some (go_of j made)
-    new_go = ap record_in k.2 ∙ record_of-written (written (go_of j made)) (go_of j made) (record { valid = valid-go j made (stands-valid (d.files (record_name j.actor)) (prepare_of j) k.0.closing.stands).0; token_fits = job.token_fits; numbers_fit = go_numbers; is = refl })
+    new_go = ap record_in k.2 ∙ record_of-written (written (go_of j made)) (go_of j made)
+        (record { valid = valid-go j made (stands-valid (d.files (record_name j.actor)) (prepare_of j) k.0.closing.stands).0; token_fits = job.token_fits; numbers_fit = go_numbers; is = refl })
 
     pub go_stands : record_in (renamed d.files (new_name j.actor) (record_name j.actor) (record_name j.actor)) ≡ Some (go_of j made)
     go_stands = ap record_in (renamed_to d.files (new_name j.actor) (record_name j.actor)) ∙ new_go
@@ -120,7 +135,8 @@ module _ (j : Job) (job : IsJob j) (d : Disk) (files : Files) (owners : Locks) (
         ap (λ (z : Way). put_in z (d.files e.name) (d.files (staged_name j.token e.name))) way ∙ ap (put_in x.way (d.files e.name)) staged ∙ sym (ap (file_after (d.files e.name)) by)
 
     commit_files : (q : List ℕ) → settled_files j.actor (after d (event.Publish (new_name j.actor) (record_name j.actor) true false)) q ≡ applied (edits_of j) (settled_files j.actor d) q
-    commit_files q = decided j.actor d.files (prepare_of j) (go_of j made) (edits_of j) q k.0.closing.stands refl new_go refl refl (names-prepare j ∙ sym names_go) names_go (valid-distinct j prepare_valid) (valid-plain j job prepare_valid) outcomes
+    commit_files q = decided j.actor d.files (prepare_of j) (go_of j made) (edits_of j) q k.0.closing.stands refl new_go refl refl
+        (names-prepare j ∙ sym names_go) names_go (valid-distinct j prepare_valid) (valid-plain j job prepare_valid) outcomes
 
     same_applied : (es : List Edit) (q : List ℕ) → applied es (settled_files j.actor d) q ≡ applied es files q
     same_applied [] q = settles q
@@ -138,7 +154,8 @@ module _ (j : Job) (job : IsJob j) (d : Disk) (files : Files) (owners : Locks) (
         let same : Some y ≡ Some x = sym first ∙ ap (made_at made) is ∙ found in
         let name : x.edit.name ≡ n = ap (λ (z : Made). z.edit.name) (sym (some-one y x same)) ∙ ap (λ (z : Edit). z.name) one ∙ is in
         let plain = subst (λ (z : List ℕ). is_record_name j.actor z ≡ false) is (job.plain e e_in) in
-        let moved : renamed d.files (new_name j.actor) (record_name j.actor) n ≡ d.files n = renamed_other d.files (new_name j.actor) (record_name j.actor) n (record_name-not j.actor n plain).1 (record_name-not j.actor n plain).0 in
+        let moved : renamed d.files (new_name j.actor) (record_name j.actor) n ≡ d.files n =
+        renamed_other d.files (new_name j.actor) (record_name j.actor) n (record_name-not j.actor n plain).1 (record_name-not j.actor n plain).0 in
         let seen : d.files n ≡ x.seen = ap d.files (sym name) ∙ k.0.seen x x_in in
         ap (reaches at) (moved ∙ seen) ∙ reaches_so
 
@@ -169,7 +186,8 @@ module _ (j : Job) (job : IsJob j) (d : Disk) (files : Files) (owners : Locks) (
     commit_staged m = renamed_other d.files (new_name j.actor) (record_name j.actor) (staged_name j.token m) (staged-new j.token m j.actor) (staged-record j.token m j.actor)
 
     -- the file is staged as it was made
-    name_staged : (m : List ℕ) → Mem m (all_of j) → (renamed d.files (new_name j.actor) (record_name j.actor) (staged_name j.token m) ≡ content_made (made_at made m)) × (is_some (content_made (made_at made m)) ≡ true)
+    name_staged : (m : List ℕ) → Mem m (all_of j)
+        → (renamed d.files (new_name j.actor) (record_name j.actor) (staged_name j.token m) ≡ content_made (made_at made m)) × (is_some (content_made (made_at made m)) ≡ true)
     name_staged m h =
         let (e, e_in, is) = named (edits_of j) m h in
         let (x, x_in, one, first) = made_for e e_in in
@@ -196,7 +214,13 @@ module _ (j : Job) (job : IsJob j) (d : Disk) (files : Files) (owners : Locks) (
     commit_knows : Knows j (placing (go_of j made) (made_items j made) (all_of j) (Answer Done)) (after d (event.Publish (new_name j.actor) (record_name j.actor) true false))
     commit_knows = knows_placing j (after d (event.Publish (new_name j.actor) (record_name j.actor) true false)) (go_of j made) (made_items j made) (all_of j) (Answer Done)
         (record {
-          closing = record { right = k.0.closing.right; stands = go_stands; gone = λ m h. inl (subst (Mem m) (sym (names-made j made)) (subst (Mem m) names_go h)); free = λ m h. inl (subst (Mem m) names_go h) };
+          closing = record {
+            right = k.0.closing.right;
+            stands = go_stands;
+            gone =
+                λ m h. inl (subst (Mem m) (sym (names-made j made)) (subst (Mem m) names_go h));
+            free = λ m h. inl (subst (Mem m) names_go h);
+          };
           go = refl;
           within = subst (λ (ns : List (List ℕ)). Subset ns (names_of (go_of j made))) (sym (names-made j made)) in_go;
           locks_within = in_go;
@@ -211,7 +235,8 @@ module _ (j : Job) (job : IsJob j) (d : Disk) (files : Files) (owners : Locks) (
           rest = record { staged = λ m. elim (k.0.rest.staged m) [ inl a ↦ inl a | inr b ↦ inr (commit_staged m ∙ b) ]; locks = k.0.rest.locks };
         })
 
-  pub step_committing : (made : List Made) {e : Event} → IsOf (ToPublish (new_name j.actor) (record_name j.actor)) e → Agrees d e → Knows j (Committing made) d → Kept j (Committing made) e d files owners
+  pub step_committing : (made : List Made) {e : Event} → IsOf (ToPublish (new_name j.actor) (record_name j.actor)) e → Agrees d e
+      → Knows j (Committing made) d → Kept j (Committing made) e d files owners
   step_committing made (publishes {done = true} {failed = true}) agrees k = record { shows = commit_shows made k true; knows = tt }
   step_committing made (publishes {done = false} {failed = true}) agrees k = record { shows = record { settles = settles; locked = locked; sound = sound }; knows = tt }
   step_committing made (publishes {done = false} {failed = false}) agrees k = absurd (let w : is_some (d.files (new_name j.actor)) ≡ true = rw k.2 refl in cc)

@@ -36,7 +36,8 @@ free_after_lock l n m t u ne h e = h (sym (put_there l n m (Some t) ne) ∙ e)
 lock_stays : (l : Locks) (n m : List ℕ) (t : ℕ) → l m ≡ Some t → with_at l n (Some t) m ≡ Some t
 lock_stays l n m t h = elim (same_or_not m n) [ inl p ↦ ap (with_at l n (Some t)) p.0 ∙ put_here l n (Some t) | inr p ↦ put_there l n m (Some t) p.0 ∙ h ]
 
-module _ (j : Job) (job : IsJob j) (d : Disk) (files : Files) (owners : Locks) (settles : (n : List ℕ) → settled_files j.actor d n ≡ files n) (locked : (n : List ℕ) → settled_locks j.actor d n ≡ owners n) (sound : IsSound j.actor d) where
+module _ (j : Job) (job : IsJob j) (d : Disk) (files : Files) (owners : Locks) (settles : (n : List ℕ) → settled_files j.actor d n ≡ files n)
+    (locked : (n : List ℕ) → settled_locks j.actor d n ≡ owners n) (sound : IsSound j.actor d) where
   module _ (ls : List (List ℕ)) (e : Edit) (left : List Edit) (k : Knows j (Locking ls e left) d) where
     lock_mem : Mem e.name (all_of j)
     lock_mem = names_Mem (edits_of j) e (k.1.within e (inl refl))
@@ -44,7 +45,8 @@ module _ (j : Job) (job : IsJob j) (d : Disk) (files : Files) (owners : Locks) (
     lock_shows : (failed : Bool) → is_none (d.locks e.name) ≡ true → Shows j (event.Lock e.name j.token true failed) d files owners
     lock_shows failed none = record {
       settles = settles;
-      locked = λ q. lock_own j.actor d.files d.locks (prepare_of j) e.name q (Some j.token) k.0.closing.stands (subst (Mem e.name) (sym (names-prepare j)) lock_mem) (inl (none_is (d.locks e.name) none)) (inr refl) ∙ locked q;
+      locked = λ q. lock_own j.actor d.files d.locks (prepare_of j) e.name q (Some j.token) k.0.closing.stands
+          (subst (Mem e.name) (sym (names-prepare j)) lock_mem) (inl (none_is (d.locks e.name) none)) (inr refl) ∙ locked q;
       sound = sound_lock j.actor d.files d.locks (with_at d.locks e.name (Some j.token)) (prepare_of j) k.0.closing.stands refl sound;
     }
 
@@ -53,12 +55,14 @@ module _ (j : Job) (job : IsJob j) (d : Disk) (files : Files) (owners : Locks) (
     lock_all m (inr (x, inl p, is)) = inl (at_end ls e.name m (sym is ∙ ap (λ (z : Edit). z.name) p))
     lock_all m (inr (x, inr h, is)) = inr (x, h, is)
 
-    lock_free : (m : List ℕ) → ((m ≡ e.name) × (bytes_eq m e.name ≡ true)) ⊎ ((m ≢ e.name) × (bytes_eq m e.name ≡ false)) → Mem m ls ⊎ (d.locks m ≢ Some j.token) → Mem m (ls ++ (e.name ∷ [])) ⊎ (with_at d.locks e.name (Some j.token) m ≢ Some j.token)
+    lock_free : (m : List ℕ) → ((m ≡ e.name) × (bytes_eq m e.name ≡ true)) ⊎ ((m ≢ e.name) × (bytes_eq m e.name ≡ false))
+        → Mem m ls ⊎ (d.locks m ≢ Some j.token) → Mem m (ls ++ (e.name ∷ [])) ⊎ (with_at d.locks e.name (Some j.token) m ≢ Some j.token)
     lock_free m (inl p) h = inl (at_end ls e.name m p.0)
     lock_free m (inr p) (inl a) = inl (before_end ls e.name m a)
     lock_free m (inr p) (inr b) = inr (free_after_lock d.locks e.name m j.token j.token p.0 b)
 
-    lock_rest : (m : List ℕ) → ((m ≡ e.name) × (bytes_eq m e.name ≡ true)) ⊎ ((m ≢ e.name) × (bytes_eq m e.name ≡ false)) → Mem m (all_of j) ⊎ (d.locks m ≢ Some j.token) → Mem m (all_of j) ⊎ (with_at d.locks e.name (Some j.token) m ≢ Some j.token)
+    lock_rest : (m : List ℕ) → ((m ≡ e.name) × (bytes_eq m e.name ≡ true)) ⊎ ((m ≢ e.name) × (bytes_eq m e.name ≡ false))
+        → Mem m (all_of j) ⊎ (d.locks m ≢ Some j.token) → Mem m (all_of j) ⊎ (with_at d.locks e.name (Some j.token) m ≢ Some j.token)
     lock_rest m (inl p) h = inl (subst (λ (z : List ℕ). Mem z (all_of j)) (sym p.0) lock_mem)
     lock_rest m (inr p) (inl a) = inl a
     lock_rest m (inr p) (inr b) = inr (free_after_lock d.locks e.name m j.token j.token p.0 b)
@@ -86,7 +90,8 @@ module _ (j : Job) (job : IsJob j) (d : Disk) (files : Files) (owners : Locks) (
         })
         (record { all = λ m h. lock_all m (k.1.all m h); back = lock_back; within = λ x h. k.1.within x (inr h); apart = lock_apart; distinct = k.1.distinct.1 })
 
-  pub step_locking : (ls : List (List ℕ)) (x : Edit) (left : List Edit) {e : Event} → IsOf (ToLock x.name j.token) e → Agrees d e → Knows j (Locking ls x left) d → Kept j (Locking ls x left) e d files owners
+  pub step_locking : (ls : List (List ℕ)) (x : Edit) (left : List Edit) {e : Event} → IsOf (ToLock x.name j.token) e → Agrees d e
+      → Knows j (Locking ls x left) d → Kept j (Locking ls x left) e d files owners
   step_locking ls x left (locks {got = true} {failed = true}) agrees k = record { shows = lock_shows ls x left k true (agrees refl); knows = tt }
   step_locking ls x left (locks {got = false} {failed = true}) agrees k = record { shows = record { settles = settles; locked = locked; sound = sound }; knows = tt }
   step_locking ls x left (locks {got = false} {failed = false}) agrees k = record {
@@ -102,17 +107,39 @@ module _ (j : Job) (job : IsJob j) (d : Disk) (files : Files) (owners : Locks) (
           closing = k.0.closing;
           rest = k.0.rest;
           locked = k.0.locked;
-          seen = λ y h. elim (end_or_before made (record { edit = x; seen = c; way = way; content = content }) y h) [ inl p ↦ subst (λ (z : Made). d.files z.edit.name ≡ z.seen) (sym p) is | inr a ↦ k.0.seen y a ];
+          seen = λ y h. elim (end_or_before made (record { edit = x; seen = c; way = way; content = content }) y h) [
+            | inl p ↦ subst
+                (λ (z : Made). d.files z.edit.name ≡ z.seen) (sym p) is
+            | inr a ↦ k.0.seen y a
+          ];
           staged = λ y h. inl h;
         })
         (record {
-          each = λ y h. elim (end_or_before made (record { edit = x; seen = c; way = way; content = content }) y h) [ inl p ↦ subst (λ (z : Made). Mem z.edit (edits_of j) × (z.edit.by z.seen ≡ Puts z.way z.content)) (sym p) (k.1.within x (inl refl), e) | inr a ↦ k.1.each y a ];
-          all = λ z m. elim (k.1.all z m) [ inl a ↦ elim a [ inl p ↦ inr (record { edit = x; seen = c; way = way; content = content }, at_end made (record { edit = x; seen = c; way = way; content = content }) (record { edit = x; seen = c; way = way; content = content }) refl, sym p) | inr q ↦ inl q ] | inr w ↦ inr (w.0, before_end made (record { edit = x; seen = c; way = way; content = content }) w.0 w.1, w.2) ];
+          each = λ y h. elim (end_or_before made (record { edit = x; seen = c; way = way; content = content }) y h) [
+            | inl p ↦ subst
+                (λ (z : Made). Mem z.edit (edits_of j) × (z.edit.by z.seen ≡ Puts z.way z.content)) (sym p) (k.1.within x (inl refl), e)
+            | inr a ↦ k.1.each y a
+          ];
+          all = λ z m. elim (k.1.all z m) [
+            | inl a ↦ elim a [
+              | inl p ↦ inr (
+                record { edit = x; seen = c; way = way; content = content },
+                at_end made (record { edit = x; seen = c; way = way; content = content })
+                    (record { edit = x; seen = c; way = way; content = content }) refl,
+                sym p,
+              )
+              | inr q ↦ inl q
+            ]
+            | inr w ↦ inr
+                (w.0, before_end made (record { edit = x; seen = c; way = way; content = content }) w.0 w.1, w.2)
+          ];
           within = λ z m. k.1.within z (inr m);
         })
 
-  pub step_loading : (made : List Made) (x : Edit) (left : List Edit) {e : Event} → IsOf (ToLoad x.name) e → Agrees d e → Knows j (Loading made x left) d → Kept j (Loading made x left) e d files owners
-  step_loading made x left (loads {s = seen.Bytes c held}) agrees k = record { shows = record { settles = settles; locked = locked; sound = sound }; knows = load_knows made x left k c (x.by c) (sym agrees.0) refl }
+  pub step_loading : (made : List Made) (x : Edit) (left : List Edit) {e : Event} → IsOf (ToLoad x.name) e → Agrees d e
+      → Knows j (Loading made x left) d → Kept j (Loading made x left) e d files owners
+  step_loading made x left (loads {s = seen.Bytes c held}) agrees k =
+      record { shows = record { settles = settles; locked = locked; sound = sound }; knows = load_knows made x left k c (x.by c) (sym agrees.0) refl }
   step_loading made x left (loads {s = seen.TooLarge n}) agrees k = record {
     shows = record { settles = settles; locked = locked; sound = sound };
     knows = knows_refusing j d [] (all_of j) (Refused (TooLarge x.name n)) made made tt k.0 (record { each = λ m h. absurd h }) (record { each = λ m h. h });
@@ -127,7 +154,8 @@ module _ (j : Job) (job : IsJob j) (d : Disk) (files : Files) (owners : Locks) (
     stage_shows : (failed : Bool) (c : Option (List ℕ)) → Shows j (event.Stage (staged_name j.token x.edit.name) c failed) d files owners
     stage_shows failed c = record {
       settles = λ q. keep_staged j.actor d.files (prepare_of j) c x.edit.name q k.0.closing.stands refl (subst (Mem x.edit.name) (sym (names-prepare j)) staged_mem) ∙ settles q;
-      locked = λ q. lock_same j.actor d.files (with_at d.files (staged_name j.token x.edit.name) c) d.locks q (put_there d.files (staged_name j.token x.edit.name) (record_name j.actor) c (record-staged j.token x.edit.name j.actor)) ∙ locked q;
+      locked = λ q. lock_same j.actor d.files (with_at d.files (staged_name j.token x.edit.name) c) d.locks q
+          (put_there d.files (staged_name j.token x.edit.name) (record_name j.actor) c (record-staged j.token x.edit.name j.actor)) ∙ locked q;
       sound = sound_staged j.actor d.files d.locks (prepare_of j) c x.edit.name k.0.closing.stands refl sound;
     }
 
@@ -137,12 +165,14 @@ module _ (j : Job) (job : IsJob j) (d : Disk) (files : Files) (owners : Locks) (
     still_there : (m : List ℕ) → m ≢ x.edit.name → with_at d.files (staged_name j.token x.edit.name) (Some x.content) (staged_name j.token m) ≡ d.files (staged_name j.token m)
     still_there m ne = put_there d.files (staged_name j.token x.edit.name) (staged_name j.token m) (Some x.content) (λ e. ne (staged-one j.token m x.edit.name e))
 
-    stage_gone : (m : List ℕ) → ((m ≡ x.edit.name) × (bytes_eq m x.edit.name ≡ true)) ⊎ ((m ≢ x.edit.name) × (bytes_eq m x.edit.name ≡ false)) → Mem m ns ⊎ (d.files (staged_name j.token m) ≡ None) → Mem m (ns ++ (x.edit.name ∷ [])) ⊎ (with_at d.files (staged_name j.token x.edit.name) (Some x.content) (staged_name j.token m) ≡ None)
+    stage_gone : (m : List ℕ) → ((m ≡ x.edit.name) × (bytes_eq m x.edit.name ≡ true)) ⊎ ((m ≢ x.edit.name) × (bytes_eq m x.edit.name ≡ false))
+        → Mem m ns ⊎ (d.files (staged_name j.token m) ≡ None) → Mem m (ns ++ (x.edit.name ∷ [])) ⊎ (with_at d.files (staged_name j.token x.edit.name) (Some x.content) (staged_name j.token m) ≡ None)
     stage_gone m (inl p) h = inl (at_end ns x.edit.name m p.0)
     stage_gone m (inr p) (inl a) = inl (before_end ns x.edit.name m a)
     stage_gone m (inr p) (inr b) = inr (still_there m p.0 ∙ b)
 
-    stage_rest : (m : List ℕ) → ((m ≡ x.edit.name) × (bytes_eq m x.edit.name ≡ true)) ⊎ ((m ≢ x.edit.name) × (bytes_eq m x.edit.name ≡ false)) → Mem m (all_of j) ⊎ (d.files (staged_name j.token m) ≡ None) → Mem m (all_of j) ⊎ (with_at d.files (staged_name j.token x.edit.name) (Some x.content) (staged_name j.token m) ≡ None)
+    stage_rest : (m : List ℕ) → ((m ≡ x.edit.name) × (bytes_eq m x.edit.name ≡ true)) ⊎ ((m ≢ x.edit.name) × (bytes_eq m x.edit.name ≡ false))
+        → Mem m (all_of j) ⊎ (d.files (staged_name j.token m) ≡ None) → Mem m (all_of j) ⊎ (with_at d.files (staged_name j.token x.edit.name) (Some x.content) (staged_name j.token m) ≡ None)
     stage_rest m (inl p) h = inl (subst (λ (z : List ℕ). Mem z (all_of j)) (sym p.0) staged_mem)
     stage_rest m (inr p) (inl a) = inl a
     stage_rest m (inr p) (inr b) = inr (still_there m p.0 ∙ b)
@@ -150,20 +180,28 @@ module _ (j : Job) (job : IsJob j) (d : Disk) (files : Files) (owners : Locks) (
     content_of : Outcome → Option (List ℕ)
     content_of (Puts way content) = Some content
 
-    stage_stays : (y : Made) → Mem y made → d.files (staged_name j.token y.edit.name) ≡ Some y.content → ((y.edit.name ≡ x.edit.name) × (bytes_eq y.edit.name x.edit.name ≡ true)) ⊎ ((y.edit.name ≢ x.edit.name) × (bytes_eq y.edit.name x.edit.name ≡ false)) → with_at d.files (staged_name j.token x.edit.name) (Some x.content) (staged_name j.token y.edit.name) ≡ Some y.content
+    stage_stays : (y : Made) → Mem y made → d.files (staged_name j.token y.edit.name) ≡ Some y.content
+        → ((y.edit.name ≡ x.edit.name) × (bytes_eq y.edit.name x.edit.name ≡ true))
+        ⊎ ((y.edit.name ≢ x.edit.name) × (bytes_eq y.edit.name x.edit.name ≡ false))
+        → with_at d.files (staged_name j.token x.edit.name) (Some x.content) (staged_name j.token y.edit.name) ≡ Some y.content
     unfolding content_of
     stage_stays y h b (inr p) = still_there y.edit.name p.0 ∙ b
     stage_stays y h b (inl p) =
         let x_in = k.3.each x (inl refl) in
-        let one : y.edit ≡ x.edit = one_edit (edits_of j) y.edit x.edit (valid-distinct j (stands-valid (d.files (record_name j.actor)) (prepare_of j) k.0.closing.stands).0) (k.1.each y h).0 (k.1.each x x_in).0 p.0 in
+        let one : y.edit ≡ x.edit = one_edit (edits_of j) y.edit x.edit
+        (valid-distinct j (stands-valid (d.files (record_name j.actor)) (prepare_of j) k.0.closing.stands).0) (k.1.each y h).0 (k.1.each x x_in).0 p.0 in
         let see : y.seen ≡ x.seen = sym (k.0.seen y h) ∙ ap d.files p.0 ∙ k.0.seen x x_in in
         let by : y.edit.by y.seen ≡ x.edit.by x.seen = ap (λ (z : Edit). z.by y.seen) one ∙ ap x.edit.by see in
         let same : Puts y.way y.content ≡ Puts x.way x.content = sym (k.1.each y h).1 ∙ by ∙ (k.1.each x x_in).1 in
         let content : Some y.content ≡ Some x.content = ap content_of same in
-        ap (λ (z : List ℕ). with_at d.files (staged_name j.token x.edit.name) (Some x.content) (staged_name j.token z)) p.0 ∙ put_here d.files (staged_name j.token x.edit.name) (Some x.content) ∙ sym content
+        ap (λ (z : List ℕ). with_at d.files (staged_name j.token x.edit.name) (Some x.content) (staged_name j.token z)) p.0
+        ∙ put_here d.files (staged_name j.token x.edit.name) (Some x.content) ∙ sym content
 
-    stage_left : (y : Made) → Mem y made → Mem y (x ∷ left) ⊎ (d.files (staged_name j.token y.edit.name) ≡ Some y.content) → Mem y left ⊎ (with_at d.files (staged_name j.token x.edit.name) (Some x.content) (staged_name j.token y.edit.name) ≡ Some y.content)
-    stage_left y h (inl (inl p)) = inr (subst (λ (z : Made). with_at d.files (staged_name j.token x.edit.name) (Some x.content) (staged_name j.token z.edit.name) ≡ Some z.content) (sym p) (put_here d.files (staged_name j.token x.edit.name) (Some x.content)))
+    stage_left : (y : Made) → Mem y made → Mem y (x ∷ left) ⊎ (d.files (staged_name j.token y.edit.name) ≡ Some y.content)
+        → Mem y left ⊎ (with_at d.files (staged_name j.token x.edit.name) (Some x.content) (staged_name j.token y.edit.name) ≡ Some y.content)
+    stage_left y h (inl (inl p)) = inr (subst
+        (λ (z : Made). with_at d.files (staged_name j.token x.edit.name) (Some x.content) (staged_name j.token z.edit.name) ≡ Some z.content) (sym p)
+        (put_here d.files (staged_name j.token x.edit.name) (Some x.content)))
     stage_left y h (inl (inr a)) = inl a
     stage_left y h (inr b) = inr (stage_stays y h b (same_or_not y.edit.name x.edit.name))
 
@@ -189,6 +227,7 @@ module _ (j : Job) (job : IsJob j) (d : Disk) (files : Files) (owners : Locks) (
         })
         k.1 (record { each = stage_sub }) (record { each = λ y h. k.3.each y (inr h) })
 
-  pub step_staging : (ns : List (List ℕ)) (made : List Made) (x : Made) (left : List Made) {e : Event} → IsOf (ToStage (staged_name j.token x.edit.name) x.content) e → Knows j (Staging ns made x left) d → Kept j (Staging ns made x left) e d files owners
+  pub step_staging : (ns : List (List ℕ)) (made : List Made) (x : Made) (left : List Made) {e : Event}
+      → IsOf (ToStage (staged_name j.token x.edit.name) x.content) e → Knows j (Staging ns made x left) d → Kept j (Staging ns made x left) e d files owners
   step_staging ns made x left stages k = record { shows = stage_shows ns made x left k false (Some x.content); knows = stage_knows ns made x left k }
   step_staging ns made x left (stage_fails {left = c}) k = record { shows = stage_shows ns made x left k true c; knows = tt }

@@ -28,7 +28,8 @@ use Rattle.commit_machine.proofs.steps.Shown
 use Rattle.commit_machine.proofs.steps.Shown.{Shows, Kept, none_of, absent_more, absent_renamed}
 
 -- a name after the first is left, or the staged file is gone
-gone_there : (r : Record) (n : List ℕ) (ns : List (List ℕ)) (f : Files) (m : List ℕ) → Mem m (n ∷ ns) ⊎ (f (staged_name r.token m) ≡ None) → f (staged_name r.token n) ≡ None → Mem m ns ⊎ (f (staged_name r.token m) ≡ None)
+gone_there : (r : Record) (n : List ℕ) (ns : List (List ℕ)) (f : Files) (m : List ℕ) → Mem m (n ∷ ns) ⊎ (f (staged_name r.token m) ≡ None)
+    → f (staged_name r.token n) ≡ None → Mem m ns ⊎ (f (staged_name r.token m) ≡ None)
 gone_there r n ns f m (inl (inl e)) h = inr (ap (λ (z : List ℕ). f (staged_name r.token z)) e ∙ h)
 gone_there r n ns f m (inl (inr a)) h = inl a
 gone_there r n ns f m (inr b) h = inr b
@@ -38,7 +39,8 @@ pub another : (n m : List ℕ) (ns : List (List ℕ)) → has ns n ≡ false →
 another n m ns h mem e = let w : has ns n ≡ true = Mem_has ns n (subst (λ (z : List ℕ). Mem z ns) e mem) in absurd (cc)
 
 -- the staged files of the names that are left stay
-pub staged_left : (th : Then) (r : Record) (xs ys : List Item) (d d' : Disk) → ((x : Item) → Mem x ys → Mem x xs × (d'.files (staged_name r.token x.name) ≡ d.files (staged_name r.token x.name))) → AreStaged th r xs d → AreStaged th r ys d'
+pub staged_left : (th : Then) (r : Record) (xs ys : List Item) (d d' : Disk)
+    → ((x : Item) → Mem x ys → Mem x xs × (d'.files (staged_name r.token x.name) ≡ d.files (staged_name r.token x.name))) → AreStaged th r xs d → AreStaged th r ys d'
 staged_left GoOn r xs ys d d' h k = tt
 staged_left (Answer e) r xs ys d d' h k = λ x mem. let w = h x mem in let p = k x w.0 in (w.1 ∙ p.0, p.1)
 
@@ -47,7 +49,8 @@ pub not_decided : (j : Job) (d : Disk) (files : Files) (from to : List ℕ) (fai
 not_decided j d files from to failed n ne = rw (same_false from (new_name j.actor) ne) refl
 
 -- an entry whose staged file is gone is in place
-pub passed_placed : (j : Job) (d : Disk) (r : Record) (x : Item) (xs : List Item) (ls : List (List ℕ)) (th : Then) → PartPlaced j.actor r (x ∷ xs) ls th d → d.files (staged_name r.token x.name) ≡ None → PartPlaced j.actor r xs ls th d
+pub passed_placed : (j : Job) (d : Disk) (r : Record) (x : Item) (xs : List Item) (ls : List (List ℕ)) (th : Then)
+    → PartPlaced j.actor r (x ∷ xs) ls th d → d.files (staged_name r.token x.name) ≡ None → PartPlaced j.actor r xs ls th d
 passed_placed j d r x xs ls th k none = record {
   closing = record { right = k.closing.right; stands = k.closing.stands; gone = λ m h. gone_there r x.name (item_names xs) d.files m (k.closing.gone m h) none; free = k.closing.free };
   go = k.go;
@@ -58,13 +61,15 @@ passed_placed j d r x xs ls th k none = record {
   staged = staged_left th r (x ∷ xs) xs d d (λ y h. (inr h, refl)) k.staged;
 }
 
-module _ (j : Job) (job : IsJob j) (d : Disk) (files : Files) (owners : Locks) (settles : (n : List ℕ) → settled_files j.actor d n ≡ files n) (locked : (n : List ℕ) → settled_locks j.actor d n ≡ owners n) (sound : IsSound j.actor d) where
+module _ (j : Job) (job : IsJob j) (d : Disk) (files : Files) (owners : Locks) (settles : (n : List ℕ) → settled_files j.actor d n ≡ files n)
+    (locked : (n : List ℕ) → settled_locks j.actor d n ≡ owners n) (sound : IsSound j.actor d) where
   -- a staged file of an undecided record is erased
   module _ (r : Record) (n : List ℕ) (ns ls : List (List ℕ)) (th : Then) (k : Knows j (Undoing r n ns ls th) d) where
     undone : (failed : Bool) → Shows j (event.Erase (staged_name r.token n) true failed) d files owners
     undone failed = record {
       settles = λ q. keep_staged j.actor d.files r None n q k.0.stands k.1 (k.2.each n (inl refl)) ∙ settles q;
-      locked = λ q. lock_same j.actor d.files (with_at d.files (staged_name r.token n) None) d.locks q (put_there d.files (staged_name r.token n) (record_name j.actor) None (record-staged r.token n j.actor)) ∙ locked q;
+      locked = λ q. lock_same j.actor d.files (with_at d.files (staged_name r.token n) None) d.locks q
+          (put_there d.files (staged_name r.token n) (record_name j.actor) None (record-staged r.token n j.actor)) ∙ locked q;
       sound = sound_staged j.actor d.files d.locks r None n k.0.stands k.1 sound;
     }
 
@@ -80,9 +85,11 @@ module _ (j : Job) (job : IsJob j) (d : Disk) (files : Files) (owners : Locks) (
     undone_knows = knows_undoing j (after d (event.Erase (staged_name r.token n) true false)) r ns ls th
         (record { right = k.0.right; stands = undone_stands ∙ k.0.stands; gone = λ m h. undone_gone m (k.0.gone m h); free = k.0.free })
         k.1 (record { each = λ m h. k.2.each m (inr h) }) k.3
-        (Shown.then_moves j job d files owners settles locked sound (after d (event.Erase (staged_name r.token n) true false)) r th (λ m h. absent_more d.files (staged_name r.token n) (staged_name j.token m) h) (λ m h. h) undone_stands k.4)
+        (Shown.then_moves j job d files owners settles locked sound (after d (event.Erase (staged_name r.token n) true false)) r th
+        (λ m h. absent_more d.files (staged_name r.token n) (staged_name j.token m) h) (λ m h. h) undone_stands k.4)
 
-  pub step_undoing : (r : Record) (n : List ℕ) (ns ls : List (List ℕ)) (th : Then) {e : Event} → IsOf (ToErase (staged_name r.token n)) e → Agrees d e → Knows j (Undoing r n ns ls th) d → Kept j (Undoing r n ns ls th) e d files owners
+  pub step_undoing : (r : Record) (n : List ℕ) (ns ls : List (List ℕ)) (th : Then) {e : Event} → IsOf (ToErase (staged_name r.token n)) e → Agrees d e
+      → Knows j (Undoing r n ns ls th) d → Kept j (Undoing r n ns ls th) e d files owners
   step_undoing r n ns ls th (erases {done = true} {failed = true}) agrees k = record { shows = undone r n ns ls th k true; knows = tt }
   step_undoing r n ns ls th (erases {done = false} {failed = true}) agrees k = record { shows = record { settles = settles; locked = locked; sound = sound }; knows = tt }
   step_undoing r n ns ls th (erases {done = false} {failed = false}) agrees k = absurd (cc)
@@ -107,18 +114,23 @@ module _ (j : Job) (job : IsJob j) (d : Disk) (files : Files) (owners : Locks) (
 
     placed_shows : (failed : Bool) → is_some (d.files (staged_name r.token x.name)) ≡ true → Shows j (event.Publish (staged_name r.token x.name) x.name true failed) d files owners
     placed_shows failed stands = record {
-      settles = λ q. keep_place j.actor d.files r x.name q k.0.closing.stands k.0.go mem plain law (k.0.ways x (inl refl) ∙ k.2) stands ∙ settles q ∙ sym (not_decided j d files (staged_name r.token x.name) x.name failed q (staged-new r.token x.name j.actor));
+      settles = λ q. keep_place j.actor d.files r x.name q k.0.closing.stands k.0.go mem plain law (k.0.ways x (inl refl) ∙ k.2) stands ∙ settles q
+          ∙ sym (not_decided j d files (staged_name r.token x.name) x.name failed q (staged-new r.token x.name j.actor));
       locked = λ q. lock_same j.actor d.files (renamed d.files (staged_name r.token x.name) x.name) d.locks q placed_record ∙ locked q;
-      sound = sound_place j.actor d.files d.locks r.token x.name plain law (keeps_way j.actor d.files (renamed d.files (staged_name r.token x.name) x.name) r x.name Replace (λ at e. absurd (cc)) k.0.closing.stands (k.0.ways x (inl refl) ∙ k.2)) sound;
+      sound = sound_place j.actor d.files d.locks r.token x.name plain law
+          (keeps_way j.actor d.files (renamed d.files (staged_name r.token x.name) x.name) r x.name Replace (λ at e. absurd (cc)) k.0.closing.stands (k.0.ways x (inl refl) ∙ k.2)) sound;
     }
 
-    placed_gone : (m : List ℕ) → Mem m (x.name ∷ item_names xs) ⊎ (d.files (staged_name r.token m) ≡ None) → Mem m (item_names xs) ⊎ (renamed d.files (staged_name r.token x.name) x.name (staged_name r.token m) ≡ None)
-    placed_gone m (inl (inl e)) = inr (ap (λ (z : List ℕ). renamed d.files (staged_name r.token x.name) x.name (staged_name r.token z)) e ∙ renamed_from d.files (staged_name r.token x.name) x.name (λ w. lawful-staged x.name r.token x.name law (sym w)))
+    placed_gone : (m : List ℕ) → Mem m (x.name ∷ item_names xs) ⊎ (d.files (staged_name r.token m) ≡ None)
+        → Mem m (item_names xs) ⊎ (renamed d.files (staged_name r.token x.name) x.name (staged_name r.token m) ≡ None)
+    placed_gone m (inl (inl e)) = inr (ap (λ (z : List ℕ). renamed d.files (staged_name r.token x.name) x.name (staged_name r.token z)) e
+        ∙ renamed_from d.files (staged_name r.token x.name) x.name (λ w. lawful-staged x.name r.token x.name law (sym w)))
     placed_gone m (inl (inr h)) = inl h
     placed_gone m (inr h) = inr (absent_renamed d.files (staged_name r.token x.name) x.name (staged_name r.token m) (λ w. lawful-staged x.name r.token m law (sym w)) h)
 
     placed_left : (y : Item) → Mem y xs → renamed d.files (staged_name r.token x.name) x.name (staged_name r.token y.name) ≡ d.files (staged_name r.token y.name)
-    placed_left y h = renamed_other d.files (staged_name r.token x.name) x.name (staged_name r.token y.name) (λ w. another x.name y.name (item_names xs) k.0.distinct.0 (item-named xs y h) (staged-one r.token y.name x.name w)) (λ w. lawful-staged x.name r.token y.name law (sym w))
+    placed_left y h = renamed_other d.files (staged_name r.token x.name) x.name (staged_name r.token y.name)
+        (λ w. another x.name y.name (item_names xs) k.0.distinct.0 (item-named xs y h) (staged-one r.token y.name x.name w)) (λ w. lawful-staged x.name r.token y.name law (sym w))
 
     placed_knows : Knows j (placing r xs ls th) (after d (event.Publish (staged_name r.token x.name) x.name true false))
     placed_knows = knows_placing j (after d (event.Publish (staged_name r.token x.name) x.name true false)) r xs ls th
@@ -131,13 +143,16 @@ module _ (j : Job) (job : IsJob j) (d : Disk) (files : Files) (owners : Locks) (
           ways = λ y h. k.0.ways y (inr h);
           staged = staged_left th r (x ∷ xs) xs d (after d (event.Publish (staged_name r.token x.name) x.name true false)) (λ y h. (inr h, placed_left y h)) k.0.staged;
         })
-        (Shown.then_moves j job d files owners settles locked sound (after d (event.Publish (staged_name r.token x.name) x.name true false)) r th (λ m h. absent_renamed d.files (staged_name r.token x.name) x.name (staged_name j.token m) (λ w. lawful-staged x.name j.token m law (sym w)) h) (λ m h. h) (ap record_in placed_record) k.1)
+        (Shown.then_moves j job d files owners settles locked sound (after d (event.Publish (staged_name r.token x.name) x.name true false)) r th
+        (λ m h. absent_renamed d.files (staged_name r.token x.name) x.name (staged_name j.token m) (λ w. lawful-staged x.name j.token m law (sym w)) h) (λ m h. h) (ap record_in placed_record) k.1)
 
     passed_knows : d.files (staged_name r.token x.name) ≡ None → Knows j (placing r xs ls th) d
     passed_knows none = knows_placing j d r xs ls th (passed_placed j d r x xs ls th k.0 none) k.1
 
-  pub step_placing : (r : Record) (x : Item) (xs : List Item) (ls : List (List ℕ)) (th : Then) {e : Event} → IsOf (ToPublish (staged_name r.token x.name) x.name) e → Agrees d e → Knows j (Placing r x xs ls th) d → Kept j (Placing r x xs ls th) e d files owners
+  pub step_placing : (r : Record) (x : Item) (xs : List Item) (ls : List (List ℕ)) (th : Then) {e : Event}
+      → IsOf (ToPublish (staged_name r.token x.name) x.name) e → Agrees d e → Knows j (Placing r x xs ls th) d → Kept j (Placing r x xs ls th) e d files owners
   step_placing r x xs ls th (publishes {done = true} {failed = true}) agrees k = record { shows = placed_shows r x xs ls th k true (agrees refl); knows = tt }
   step_placing r x xs ls th (publishes {done = false} {failed = true}) agrees k = record { shows = record { settles = settles; locked = locked; sound = sound }; knows = tt }
-  step_placing r x xs ls th (publishes {done = false} {failed = false}) agrees k = record { shows = record { settles = settles; locked = locked; sound = sound }; knows = passed_knows r x xs ls th k (none_of (d.files (staged_name r.token x.name)) (sym agrees)) }
+  step_placing r x xs ls th (publishes {done = false} {failed = false}) agrees k =
+      record { shows = record { settles = settles; locked = locked; sound = sound }; knows = passed_knows r x xs ls th k (none_of (d.files (staged_name r.token x.name)) (sym agrees)) }
   step_placing r x xs ls th (publishes {done = true} {failed = false}) agrees k = record { shows = placed_shows r x xs ls th k false (sym agrees); knows = placed_knows r x xs ls th k }

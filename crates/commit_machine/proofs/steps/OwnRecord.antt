@@ -28,15 +28,19 @@ use Rattle.commit_machine.proofs.records.OfJob.{valid-distinct}
 use Rattle.commit_machine.proofs.steps.Shown.{Shows, Kept}
 
 -- a publication of a record that isn't the decision
-not_go : (j : Job) (d : Disk) (files : Files) (r : Record) (from to : List ℕ) (failed : Bool) (n : List ℕ) → record_in (d.files (new_name j.actor)) ≡ Some r → is_go r ≡ false → files_then j (event.Publish from to true failed) d files n ≡ files n
+not_go : (j : Job) (d : Disk) (files : Files) (r : Record) (from to : List ℕ) (failed : Bool) (n : List ℕ)
+    → record_in (d.files (new_name j.actor)) ≡ Some r → is_go r ≡ false → files_then j (event.Publish from to true failed) d files n ≡ files n
 not_go j d files r from to failed n e go = rw (e, go) (elim (cases_Bool (bytes_eq from (new_name j.actor) && bytes_eq to (record_name j.actor))) [ inl y ↦ rw y refl | inr nay ↦ rw nay refl ])
 
-module _ (j : Job) (job : IsJob j) (d : Disk) (files : Files) (owners : Locks) (settles : (n : List ℕ) → settled_files j.actor d n ≡ files n) (locked : (n : List ℕ) → settled_locks j.actor d n ≡ owners n) (sound : IsSound j.actor d) where
+module _ (j : Job) (job : IsJob j) (d : Disk) (files : Files) (owners : Locks) (settles : (n : List ℕ) → settled_files j.actor d n ≡ files n)
+    (locked : (n : List ℕ) → settled_locks j.actor d n ≡ owners n) (sound : IsSound j.actor d) where
   -- what is written to the staging of the record
-  pub new_shows : (e : Event) (c : Option (List ℕ)) → (after d e ≡ record d { files = with_at d.files (new_name j.actor) c }) → ((n : List ℕ) → files_then j e d files n ≡ files n) → Shows j e d files owners
+  pub new_shows : (e : Event) (c : Option (List ℕ)) → (after d e ≡ record d { files = with_at d.files (new_name j.actor) c })
+      → ((n : List ℕ) → files_then j e d files n ≡ files n) → Shows j e d files owners
   new_shows e c is same = record {
     settles = λ q. ap (λ (z : Disk). settled_files j.actor z q) is ∙ keep_new j.actor d.files c q ∙ settles q ∙ sym (same q);
-    locked = λ q. ap (λ (z : Disk). settled_locks j.actor z q) is ∙ lock_same j.actor d.files (with_at d.files (new_name j.actor) c) d.locks q (put_there d.files (new_name j.actor) (record_name j.actor) c (record-new j.actor)) ∙ locked q;
+    locked = λ q. ap (λ (z : Disk). settled_locks j.actor z q) is
+        ∙ lock_same j.actor d.files (with_at d.files (new_name j.actor) c) d.locks q (put_there d.files (new_name j.actor) (record_name j.actor) c (record-new j.actor)) ∙ locked q;
     sound = subst (λ (z : Disk). IsSound j.actor z) (sym is) (sound_new j.actor d.files d.locks c sound);
   }
 
@@ -84,11 +88,13 @@ module _ (j : Job) (job : IsJob j) (d : Disk) (files : Files) (owners : Locks) (
     now_stands = ap record_in (renamed_to d.files (new_name j.actor) (record_name j.actor)) ∙ new_holds
 
     not_decided_yet : (r : Record) → record_in (renamed d.files (new_name j.actor) (record_name j.actor) (record_name j.actor)) ≡ Some r → is_go r ≡ true → ⊥
-    not_decided_yet r e g = let w : Some (prepare_of j) ≡ Some r = sym now_stands ∙ e in let v : prepare_of j ≡ r = cc in let x : is_go (prepare_of j) ≡ true = subst (λ (z : Record). is_go z ≡ true) (sym v) g in absurd (cc)
+    not_decided_yet r e g = let w : Some (prepare_of j) ≡ Some r = sym now_stands ∙ e in let v : prepare_of j ≡ r = cc in
+        let x : is_go (prepare_of j) ≡ true = subst (λ (z : Record). is_go z ≡ true) (sym v) g in absurd (cc)
 
     publish_shows : (failed : Bool) → Shows j (event.Publish (new_name j.actor) (record_name j.actor) true failed) d files owners
     publish_shows failed = record {
-      settles = λ q. keep_prepare j.actor d.files (prepare_of j) q (ap record_in k.0.none) refl new_holds k.0.clean.fresh.staged ∙ settles q ∙ sym (not_go j d files (prepare_of j) (new_name j.actor) (record_name j.actor) failed q new_holds refl);
+      settles = λ q. keep_prepare j.actor d.files (prepare_of j) q (ap record_in k.0.none) refl new_holds k.0.clean.fresh.staged ∙ settles q
+          ∙ sym (not_go j d files (prepare_of j) (new_name j.actor) (record_name j.actor) failed q new_holds refl);
       locked = λ q. lock_prepare j.actor d.files d.locks (prepare_of j) q (ap record_in k.0.none) new_holds k.0.clean.fresh.locks ∙ locked q;
       sound = record { plain = λ r n e g m. absurd (not_decided_yet r e g); locked = λ r n e g m s. absurd (not_decided_yet r e g); long = λ r n at e g m way s. absurd (not_decided_yet r e g) };
     }
@@ -111,7 +117,15 @@ module _ (j : Job) (job : IsJob j) (d : Disk) (files : Files) (owners : Locks) (
     }
 
     publish_knows : Knows j (locking j [] (edits_of j)) (after d (event.Publish (new_name j.actor) (record_name j.actor) true false))
-    publish_knows = knows_locking j (after d (event.Publish (new_name j.actor) (record_name j.actor) true false)) [] (edits_of j) publish_own (record { all = λ m h. inr (named (edits_of j) m h); back = λ m h. absurd h; within = λ e m. m; apart = λ m h. absurd h; distinct = valid-distinct j (stands-valid (renamed d.files (new_name j.actor) (record_name j.actor) (record_name j.actor)) (prepare_of j) now_stands).0 })
+    publish_knows = knows_locking j (after d (event.Publish (new_name j.actor) (record_name j.actor) true false)) [] (edits_of j) publish_own
+        (record {
+          all = λ m h. inr (named (edits_of j) m h);
+          back = λ m h. absurd h;
+          within = λ e m. m;
+          apart = λ m h. absurd h;
+          distinct =
+              valid-distinct j (stands-valid (renamed d.files (new_name j.actor) (record_name j.actor) (record_name j.actor)) (prepare_of j) now_stands).0;
+        })
 
   pub step_publishing : {e : Event} → IsOf (ToPublish (new_name j.actor) (record_name j.actor)) e → Agrees d e → Knows j Publishing d → Kept j Publishing e d files owners
   step_publishing (publishes {done = true} {failed = true}) agrees k = record { shows = publish_shows k true; knows = tt }

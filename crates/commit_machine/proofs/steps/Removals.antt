@@ -32,7 +32,8 @@ use Rattle.commit_machine.proofs.steps.Mending.{another, staged_left, passed_pla
 use Rattle.commit_machine.proofs.steps.Shown
 
 -- what is known of a staged file is what was seen of it
-seen_placed : (actor : List ℕ) (r : Record) (x : Item) (xs : List Item) (ls : List (List ℕ)) (c : Option (List ℕ)) (d : Disk) → PartPlaced actor r (x ∷ xs) ls GoOn d → PartPlaced actor r (record x { staged = c } ∷ xs) ls GoOn d
+seen_placed : (actor : List ℕ) (r : Record) (x : Item) (xs : List Item) (ls : List (List ℕ)) (c : Option (List ℕ)) (d : Disk)
+    → PartPlaced actor r (x ∷ xs) ls GoOn d → PartPlaced actor r (record x { staged = c } ∷ xs) ls GoOn d
 seen_placed actor r x xs ls c d k = record {
   closing = k.closing;
   go = k.go;
@@ -44,17 +45,21 @@ seen_placed actor r x xs ls c d k = record {
 }
 
 -- its staged file stands, so it is put in place
-known_placed : (j : Job) (d : Disk) (r : Record) (way : Way) (x : Item) (xs : List Item) (ls : List (List ℕ)) → x.way ≡ way → IsLooked way → PartPlaced j.actor r (x ∷ xs) ls GoOn d → ThenOk j r GoOn d → IsStaged r x d → Knows j (place_known way r x xs ls GoOn) d
+known_placed : (j : Job) (d : Disk) (r : Record) (way : Way) (x : Item) (xs : List Item) (ls : List (List ℕ)) → x.way ≡ way → IsLooked way
+    → PartPlaced j.actor r (x ∷ xs) ls GoOn d → ThenOk j r GoOn d → IsStaged r x d → Knows j (place_known way r x xs ls GoOn) d
 known_placed j d r Replace x xs ls is looked k t s = absurd looked
 known_placed j d r Remove x xs ls is looked k t s = (k, t, is, s)
 known_placed j d r (Extend at) x xs ls is looked k t s = (k, t, (at, is), s)
 
-module _ (j : Job) (job : IsJob j) (d : Disk) (files : Files) (locks : Locks) (settles : (n : List ℕ) → settled_files j.actor d n ≡ files n) (locked : (n : List ℕ) → settled_locks j.actor d n ≡ locks n) (sound : IsSound j.actor d) where
-  tested_knows : (r : Record) (x : Item) (xs : List Item) (ls : List (List ℕ)) → Knows j (Testing r x xs ls) d → (c : Option (List ℕ)) → d.files (staged_name r.token x.name) ≡ c → Knows j (tested r x xs ls c) d
+module _ (j : Job) (job : IsJob j) (d : Disk) (files : Files) (locks : Locks) (settles : (n : List ℕ) → settled_files j.actor d n ≡ files n)
+    (locked : (n : List ℕ) → settled_locks j.actor d n ≡ locks n) (sound : IsSound j.actor d) where
+  tested_knows : (r : Record) (x : Item) (xs : List Item) (ls : List (List ℕ)) → Knows j (Testing r x xs ls) d → (c : Option (List ℕ))
+      → d.files (staged_name r.token x.name) ≡ c → Knows j (tested r x xs ls c) d
   tested_knows r x xs ls k None is = knows_placing j d r xs ls GoOn (passed_placed j d r x xs ls GoOn k.0 is) k.1
   tested_knows r x xs ls k (Some bytes) is = known_placed j d r x.way (record x { staged = Some bytes }) xs ls refl k.2 (seen_placed j.actor r x xs ls (Some bytes) d k.0) k.1 (is, refl)
 
-  pub step_testing : (r : Record) (x : Item) (xs : List Item) (ls : List (List ℕ)) {e : Event} → IsOf (ToLoad (staged_name r.token x.name)) e → Agrees d e → Knows j (Testing r x xs ls) d → Kept j (Testing r x xs ls) e d files locks
+  pub step_testing : (r : Record) (x : Item) (xs : List Item) (ls : List (List ℕ)) {e : Event} → IsOf (ToLoad (staged_name r.token x.name)) e
+      → Agrees d e → Knows j (Testing r x xs ls) d → Kept j (Testing r x xs ls) e d files locks
   step_testing r x xs ls (loads {s = seen.Bytes c held}) agrees k = record { shows = record { settles = settles; locked = locked; sound = sound }; knows = tested_knows r x xs ls k c (sym agrees.0) }
   step_testing r x xs ls (loads {s = seen.TooLarge m}) agrees k = record { shows = record { settles = settles; locked = locked; sound = sound }; knows = k.1 }
   step_testing r x xs ls (loads {s = seen.Failed}) agrees k = record { shows = record { settles = settles; locked = locked; sound = sound }; knows = tt }
@@ -84,7 +89,8 @@ module _ (j : Job) (job : IsJob j) (d : Disk) (files : Files) (locks : Locks) (s
     is_way = k.0.ways x (inl refl) ∙ k.2
 
     way : put_in (way_at r x.name) None (d.files (staged_name r.token x.name)) ≡ put_in (way_at r x.name) (d.files x.name) (d.files (staged_name r.token x.name))
-    way = put_in_remove (way_at r x.name) None (d.files (staged_name r.token x.name)) stands is_way ∙ sym (put_in_remove (way_at r x.name) (d.files x.name) (d.files (staged_name r.token x.name)) stands is_way)
+    way = put_in_remove (way_at r x.name) None (d.files (staged_name r.token x.name)) stands is_way
+        ∙ sym (put_in_remove (way_at r x.name) (d.files x.name) (d.files (staged_name r.token x.name)) stands is_way)
 
     -- the file has become what it is to be
     become : put_in x.way (with_at d.files x.name None x.name) (with_at d.files x.name None (staged_name r.token x.name)) ≡ with_at d.files x.name None x.name
@@ -121,7 +127,8 @@ module _ (j : Job) (job : IsJob j) (d : Disk) (files : Files) (locks : Locks) (s
       become,
     )
 
-  pub step_removing : (r : Record) (x : Item) (xs : List Item) (ls : List (List ℕ)) (th : Then) {e : Event} → IsOf (ToErase x.name) e → Agrees d e → Knows j (Removing r x xs ls th) d → Kept j (Removing r x xs ls th) e d files locks
+  pub step_removing : (r : Record) (x : Item) (xs : List Item) (ls : List (List ℕ)) (th : Then) {e : Event} → IsOf (ToErase x.name) e → Agrees d e
+      → Knows j (Removing r x xs ls th) d → Kept j (Removing r x xs ls th) e d files locks
   step_removing r x xs ls th (erases {done = true} {failed = true}) agrees k = record { shows = removed_shows r x xs ls th k true; knows = tt }
   step_removing r x xs ls th (erases {done = false} {failed = true}) agrees k = record { shows = record { settles = settles; locked = locked; sound = sound }; knows = tt }
   step_removing r x xs ls th (erases {done = false} {failed = false}) agrees k = absurd (cc)
@@ -157,10 +164,12 @@ module _ (j : Job) (job : IsJob j) (d : Disk) (files : Files) (locks : Locks) (s
     extended_staged : (tail : List ℕ) (u : ℕ) (m : List ℕ) → with_at d.files x.name (with_tail tail) (staged_name u m) ≡ d.files (staged_name u m)
     extended_staged tail u m = put_there d.files x.name (staged_name u m) (with_tail tail) (λ w. lawful-staged x.name u m extended_law (sym w))
 
-    extended_same : (tail : List ℕ) → put_in (way_at r x.name) (with_tail tail) (d.files (staged_name r.token x.name)) ≡ put_in (way_at r x.name) (d.files x.name) (d.files (staged_name r.token x.name))
+    extended_same : (tail : List ℕ) → put_in (way_at r x.name) (with_tail tail) (d.files (staged_name r.token x.name))
+        ≡ put_in (way_at r x.name) (d.files x.name) (d.files (staged_name r.token x.name))
     extended_same tail = put_in_extended (way_at r x.name) (stay x.way) (d.files x.name) (d.files (staged_name r.token x.name)) tail extended_stands (extended_way ∙ ap Extend (sym stay_is))
 
-    extended_keeps : (tail : List ℕ) (q : Record) (n : ℕ) → record_in (d.files (record_name j.actor)) ≡ Some q → way_at q x.name ≡ Extend n → reaches n (d.files x.name) ≡ true → reaches n (with_at d.files x.name (with_tail tail) x.name) ≡ true
+    extended_keeps : (tail : List ℕ) (q : Record) (n : ℕ) → record_in (d.files (record_name j.actor)) ≡ Some q → way_at q x.name ≡ Extend n
+        → reaches n (d.files x.name) ≡ true → reaches n (with_at d.files x.name (with_tail tail) x.name) ≡ true
     extended_keeps tail q n is way h =
         let so : Some r ≡ Some q = sym k.0.closing.stands ∙ is in
         let same : r ≡ q = cc in
@@ -186,7 +195,9 @@ module _ (j : Job) (job : IsJob j) (d : Disk) (files : Files) (locks : Locks) (s
         some_is None h = absurd (cc)
         some_is (Some b) h = refl
 
-    extended_become : reaches (stay x.way) (d.files x.name) ≡ true → put_in x.way (with_at d.files x.name (with_tail own_tail) x.name) (with_at d.files x.name (with_tail own_tail) (staged_name r.token x.name)) ≡ with_at d.files x.name (with_tail own_tail) x.name
+    extended_become : reaches (stay x.way) (d.files x.name) ≡ true
+        → put_in x.way (with_at d.files x.name (with_tail own_tail) x.name) (with_at d.files x.name (with_tail own_tail) (staged_name r.token x.name))
+        ≡ with_at d.files x.name (with_tail own_tail) x.name
     extended_become h =
         ap (λ (c : Option (List ℕ)). put_in x.way c (with_at d.files x.name (with_tail own_tail) (staged_name r.token x.name))) (put_here d.files x.name (with_tail own_tail))
         ∙ ap (put_in x.way (with_tail own_tail)) (extended_staged own_tail r.token x.name ∙ tail_staged)
@@ -210,12 +221,14 @@ module _ (j : Job) (job : IsJob j) (d : Disk) (files : Files) (locks : Locks) (s
         ways = k.0.ways;
         staged = staged_left th r (x ∷ xs) (x ∷ xs) d (after d (event.Extend x.name (stay x.way) own_tail false)) (λ y h. (h, extended_staged own_tail r.token y.name)) k.0.staged;
       },
-      Shown.then_moves j job d files locks settles locked sound (after d (event.Extend x.name (stay x.way) own_tail false)) r th (λ m h. extended_staged own_tail j.token m ∙ h) (λ m h. h) (ap record_in (extended_record own_tail)) k.1,
+      Shown.then_moves j job d files locks settles locked sound (after d (event.Extend x.name (stay x.way) own_tail false)) r th
+          (λ m h. extended_staged own_tail j.token m ∙ h) (λ m h. h) (ap record_in (extended_record own_tail)) k.1,
       sound.locked r x.name k.0.closing.stands k.0.go extended_mem extended_stands,
       extended_become h,
     )
 
-  pub step_extending : (r : Record) (x : Item) (xs : List Item) (ls : List (List ℕ)) (th : Then) {e : Event} → IsOf (ToExtend x.name (stay x.way) (bytes_of x.staged)) e → Agrees d e → Knows j (Extending r x xs ls th) d → Kept j (Extending r x xs ls th) e d files locks
+  pub step_extending : (r : Record) (x : Item) (xs : List Item) (ls : List (List ℕ)) (th : Then) {e : Event}
+      → IsOf (ToExtend x.name (stay x.way) (bytes_of x.staged)) e → Agrees d e → Knows j (Extending r x xs ls th) d → Kept j (Extending r x xs ls th) e d files locks
   step_extending r x xs ls th extends agrees k = record { shows = extended_shows r x xs ls th k false (bytes_of x.staged); knows = extended_knows r x xs ls th k (agrees refl) }
   step_extending r x xs ls th (extend_fails {left = tail}) agrees k = record { shows = extended_shows r x xs ls th k true tail; knows = tt }
 
@@ -234,13 +247,15 @@ module _ (j : Job) (job : IsJob j) (d : Disk) (files : Files) (locks : Locks) (s
       sound = sound_clear j.actor d.files d.locks r.token x.name sound;
     }
 
-    discarded_gone : (m : List ℕ) → Mem m (x.name ∷ item_names xs) ⊎ (d.files (staged_name r.token m) ≡ None) → Mem m (item_names xs) ⊎ (with_at d.files (staged_name r.token x.name) None (staged_name r.token m) ≡ None)
+    discarded_gone : (m : List ℕ) → Mem m (x.name ∷ item_names xs) ⊎ (d.files (staged_name r.token m) ≡ None)
+        → Mem m (item_names xs) ⊎ (with_at d.files (staged_name r.token x.name) None (staged_name r.token m) ≡ None)
     discarded_gone m (inl (inl e)) = inr (ap (λ (z : List ℕ). with_at d.files (staged_name r.token x.name) None (staged_name r.token z)) e ∙ put_here d.files (staged_name r.token x.name) None)
     discarded_gone m (inl (inr h)) = inl h
     discarded_gone m (inr h) = inr (absent_more d.files (staged_name r.token x.name) (staged_name r.token m) h)
 
     discarded_left : (y : Item) → Mem y xs → with_at d.files (staged_name r.token x.name) None (staged_name r.token y.name) ≡ d.files (staged_name r.token y.name)
-    discarded_left y h = put_there d.files (staged_name r.token x.name) (staged_name r.token y.name) None (λ w. another x.name y.name (item_names xs) k.0.distinct.0 (item-named xs y h) (staged-one r.token y.name x.name w))
+    discarded_left y h = put_there d.files (staged_name r.token x.name) (staged_name r.token y.name) None
+        (λ w. another x.name y.name (item_names xs) k.0.distinct.0 (item-named xs y h) (staged-one r.token y.name x.name w))
 
     discarded_knows : Knows j (placing r xs ls th) (after d (event.Erase (staged_name r.token x.name) true false))
     discarded_knows = knows_placing j (after d (event.Erase (staged_name r.token x.name) true false)) r xs ls th
@@ -258,9 +273,11 @@ module _ (j : Job) (job : IsJob j) (d : Disk) (files : Files) (locks : Locks) (s
           ways = λ y h. k.0.ways y (inr h);
           staged = staged_left th r (x ∷ xs) xs d (after d (event.Erase (staged_name r.token x.name) true false)) (λ y h. (inr h, discarded_left y h)) k.0.staged;
         })
-        (Shown.then_moves j job d files locks settles locked sound (after d (event.Erase (staged_name r.token x.name) true false)) r th (λ m h. absent_more d.files (staged_name r.token x.name) (staged_name j.token m) h) (λ m h. h) (ap record_in discarded_record) k.1)
+        (Shown.then_moves j job d files locks settles locked sound (after d (event.Erase (staged_name r.token x.name) true false)) r th
+        (λ m h. absent_more d.files (staged_name r.token x.name) (staged_name j.token m) h) (λ m h. h) (ap record_in discarded_record) k.1)
 
-  pub step_discarding : (r : Record) (x : Item) (xs : List Item) (ls : List (List ℕ)) (th : Then) {e : Event} → IsOf (ToErase (staged_name r.token x.name)) e → Agrees d e → Knows j (Discarding r x xs ls th) d → Kept j (Discarding r x xs ls th) e d files locks
+  pub step_discarding : (r : Record) (x : Item) (xs : List Item) (ls : List (List ℕ)) (th : Then) {e : Event}
+      → IsOf (ToErase (staged_name r.token x.name)) e → Agrees d e → Knows j (Discarding r x xs ls th) d → Kept j (Discarding r x xs ls th) e d files locks
   step_discarding r x xs ls th (erases {done = true} {failed = true}) agrees k = record { shows = discarded_shows r x xs ls th k true; knows = tt }
   step_discarding r x xs ls th (erases {done = false} {failed = true}) agrees k = record { shows = record { settles = settles; locked = locked; sound = sound }; knows = tt }
   step_discarding r x xs ls th (erases {done = false} {failed = false}) agrees k = absurd (cc)

@@ -18,13 +18,15 @@ use Rattle.commit_machine.proofs.records.Same.{put_here}
 use Rattle.commit_machine.proofs.standing.KnownNext.{knows_asking, knows_looked}
 use Rattle.commit_machine.proofs.steps.Shown.{Kept}
 
-module _ (j : Job) (job : IsJob j) (d : Disk) (files : Files) (owners : Locks) (settles : (n : List ℕ) → settled_files j.actor d n ≡ files n) (locked : (n : List ℕ) → settled_locks j.actor d n ≡ owners n) (sound : IsSound j.actor d) where
+module _ (j : Job) (job : IsJob j) (d : Disk) (files : Files) (owners : Locks) (settles : (n : List ℕ) → settled_files j.actor d n ≡ files n)
+    (locked : (n : List ℕ) → settled_locks j.actor d n ≡ owners n) (sound : IsSound j.actor d) where
   pub step_seizing : {e : Event} → IsOf (ToSeize (right_name j.actor)) e → Knows j Seizing d → Kept j Seizing e d files owners
   step_seizing (seizes {got = true} {failed = true}) k = record { shows = record { settles = settles; locked = locked; sound = sound }; knows = tt }
   step_seizing (seizes {got = false} {failed = true}) k = record { shows = record { settles = settles; locked = locked; sound = sound }; knows = tt }
   step_seizing (seizes {got = true} {failed = false}) k = record {
     shows = record { settles = settles; locked = locked; sound = sound };
-    knows = knows_asking j (after d (event.Seize (right_name j.actor) true false)) j.time (record { right = put_here d.rights (right_name j.actor) (Some OwnRight); fresh = record { staged = k.staged; locks = k.locks; record_other = k.record_other } });
+    knows = knows_asking j (after d (event.Seize (right_name j.actor) true false)) j.time
+        (record { right = put_here d.rights (right_name j.actor) (Some OwnRight); fresh = record { staged = k.staged; locks = k.locks; record_other = k.record_other } });
   }
   step_seizing (seizes {got = false} {failed = false}) k = record { shows = record { settles = settles; locked = locked; sound = sound }; knows = k }
 

@@ -46,9 +46,12 @@ pub none_left : {A : Type 0} (m : A) (P : Type 0) → Mem m [] ⊎ P → P
 none_left m P (inl h) = absurd h
 none_left m P (inr p) = p
 
-module _ (j : Job) (job : IsJob j) (d : Disk) (files : Files) (owners : Locks) (settles : (n : List ℕ) → settled_files j.actor d n ≡ files n) (locked : (n : List ℕ) → settled_locks j.actor d n ≡ owners n) (sound : IsSound j.actor d) where
+module _ (j : Job) (job : IsJob j) (d : Disk) (files : Files) (owners : Locks) (settles : (n : List ℕ) → settled_files j.actor d n ≡ files n)
+    (locked : (n : List ℕ) → settled_locks j.actor d n ≡ owners n) (sound : IsSound j.actor d) where
   -- what is known of the own token outlasts a change that puts nothing under it
-  pub then_moves : (d' : Disk) (r : Record) (th : Then) → ((m : List ℕ) → d.files (staged_name j.token m) ≡ None → d'.files (staged_name j.token m) ≡ None) → ((m : List ℕ) → d.locks m ≢ Some j.token → d'.locks m ≢ Some j.token) → standing j.actor d' ≡ standing j.actor d → ThenOk j r th d → ThenOk j r th d'
+  pub then_moves : (d' : Disk) (r : Record) (th : Then)
+      → ((m : List ℕ) → d.files (staged_name j.token m) ≡ None → d'.files (staged_name j.token m) ≡ None)
+      → ((m : List ℕ) → d.locks m ≢ Some j.token → d'.locks m ≢ Some j.token) → standing j.actor d' ≡ standing j.actor d → ThenOk j r th d → ThenOk j r th d'
   then_moves d' r GoOn f l s k = record {
     staged = λ m. f m (k.staged m);
     locks = λ m. l m (k.locks m);

@@ -267,13 +267,15 @@ told_any j d d' n s plain t = t
 from_other : (j : Job) (d : Disk) (from to : List ℕ) (failed : Bool) → from ≢ new_name j.actor → is_decision j (event.Publish from to true failed) d ≡ false
 from_other j d from to failed ne = rw (same_false from (new_name j.actor) ne) refl
 
-not_of_go : (j : Job) (d : Disk) (r : Record) (from to : List ℕ) (failed : Bool) → record_in (d.files (new_name j.actor)) ≡ Some r → is_go r ≡ false → is_decision j (event.Publish from to true failed) d ≡ false
+not_of_go : (j : Job) (d : Disk) (r : Record) (from to : List ℕ) (failed : Bool) → record_in (d.files (new_name j.actor)) ≡ Some r → is_go r ≡ false
+    → is_decision j (event.Publish from to true failed) d ≡ false
 not_of_go j d r from to failed e go = rw (e, go) (elim (cases_Bool (bytes_eq from (new_name j.actor) && bytes_eq to (record_name j.actor))) [ inl y ↦ rw y refl | inr nay ↦ rw nay refl ])
 
 own_go : (j : Job) (r : Record) → is_go r ≡ true → r.token ≡ j.token → is_own_go j (Some r) ≡ true
 own_go j r go t = let same : (r.token == j.token) ≡ true = rw t (grind (arith, common_steps)) in rw (go, same) refl
 
-of_go : (j : Job) (d : Disk) (r : Record) (failed : Bool) → record_in (d.files (new_name j.actor)) ≡ Some r → is_go r ≡ true → r.token ≡ j.token → is_decision j (event.Publish (new_name j.actor) (record_name j.actor) true failed) d ≡ true
+of_go : (j : Job) (d : Disk) (r : Record) (failed : Bool) → record_in (d.files (new_name j.actor)) ≡ Some r → is_go r ≡ true → r.token ≡ j.token
+    → is_decision j (event.Publish (new_name j.actor) (record_name j.actor) true failed) d ≡ true
 of_go j d r failed e go t =
     let own : is_own_go j (record_in (d.files (new_name j.actor))) ≡ true = ap (is_own_go j) e ∙ own_go j r go t in
     rw (same_refl (new_name j.actor), same_refl (record_name j.actor), own) refl
@@ -322,15 +324,21 @@ module _ (j : Job) (job : IsJob j) (d : Disk) (n : ℕ) (sound : IsSound j.actor
       let same : n ≡ (if is_decision j e d then suc n else n) = ap (λ (b : Bool). if b then suc n else n) (sym (plain_event j job d s e plain is k)) in
       subst (Told j (after_reply j s (reply e)) (after d e)) same (told_reply j (after d e) n s (reply e) plain (told_any j d (after d e) n s plain t))
 
-  committing_told : (made : List Made) {e : Event} → IsOf (ToPublish (new_name j.actor) (record_name j.actor)) e → Knows j (Committing made) d → n ≡ 0 → Told j (after_reply j (Committing made) (reply e)) (after d e) (if is_decision j e d then suc n else n)
+  committing_told : (made : List Made) {e : Event} → IsOf (ToPublish (new_name j.actor) (record_name j.actor)) e → Knows j (Committing made) d → n ≡ 0
+      → Told j (after_reply j (Committing made) (reply e)) (after d e) (if is_decision j e d then suc n else n)
   committing_told made (publishes {done = true} {failed = true}) k t =
-      let one : (if is_decision j (event.Publish (new_name j.actor) (record_name j.actor) true true) d then suc n else n) ≡ 1 = ap (λ (b : Bool). if b then suc n else n) (of_go j d (go_of j made) true (new_go j job d (settled_files j.actor d) (settled_locks j.actor d) (λ m. refl) (λ m. refl) sound made k) refl refl) ∙ ap suc t in
+      let one : (if is_decision j (event.Publish (new_name j.actor) (record_name j.actor) true true) d then suc n else n) ≡ 1 =
+      ap (λ (b : Bool). if b then suc n else n)
+      (of_go j d (go_of j made) true (new_go j job d (settled_files j.actor d) (settled_locks j.actor d) (λ m. refl) (λ m. refl) sound made k) refl refl) ∙ ap suc t in
       (k.0.closing.right, inl (one, passed-after j made _ (renamed_to d.files (new_name j.actor) (record_name j.actor) ∙ k.2)))
   committing_told made (publishes {done = false} {failed = true}) k t = (k.0.closing.right, inr (t, passed-before j (d.files (record_name j.actor)) k.0.closing.stands))
   committing_told made (publishes {done = false} {failed = false}) k t = t
   committing_told made (publishes {done = true} {failed = false}) k t =
-      let one : (if is_decision j (event.Publish (new_name j.actor) (record_name j.actor) true false) d then suc n else n) ≡ 1 = ap (λ (b : Bool). if b then suc n else n) (of_go j d (go_of j made) false (new_go j job d (settled_files j.actor d) (settled_locks j.actor d) (λ m. refl) (λ m. refl) sound made k) refl refl) ∙ ap suc t in
-      told_placing j (after d (event.Publish (new_name j.actor) (record_name j.actor) true false)) (if is_decision j (event.Publish (new_name j.actor) (record_name j.actor) true false) d then suc n else n) (go_of j made) (made_items j made) (all_of j) (Answer Done) one
+      let one : (if is_decision j (event.Publish (new_name j.actor) (record_name j.actor) true false) d then suc n else n) ≡ 1 =
+      ap (λ (b : Bool). if b then suc n else n)
+      (of_go j d (go_of j made) false (new_go j job d (settled_files j.actor d) (settled_locks j.actor d) (λ m. refl) (λ m. refl) sound made k) refl refl) ∙ ap suc t in
+      told_placing j (after d (event.Publish (new_name j.actor) (record_name j.actor) true false))
+      (if is_decision j (event.Publish (new_name j.actor) (record_name j.actor) true false) d then suc n else n) (go_of j made) (made_items j made) (all_of j) (Answer Done) one
 
   by_record : (c : Option (List ℕ)) → c ≡ d.files (record_name j.actor) → Looks j d n → TellsDecisions (Failed (passed_by j c)) n
   by_record c is (inl p) = subst (λ (w : Passed). TellsDecisions (Failed w) n) (sym (ap (passed_by j) is ∙ p.1)) p.0
@@ -340,7 +348,8 @@ module _ (j : Job) (job : IsJob j) (d : Disk) (n : ℕ) (sound : IsSound j.actor
   unknown (inl p) = inr p.0
   unknown (inr p) = inl p.0
 
-  checking_told : {e : Event} → IsOf (ToLoad (record_name j.actor)) e → Agrees d e → Told j Checking d n → Told j (after_reply j Checking (reply e)) (after d e) (if is_decision j e d then suc n else n)
+  checking_told : {e : Event} → IsOf (ToLoad (record_name j.actor)) e → Agrees d e → Told j Checking d n
+      → Told j (after_reply j Checking (reply e)) (after d e) (if is_decision j e d then suc n else n)
   checking_told (loads {s = seen.Bytes c held}) agrees t = by_record c agrees.0 t.1
   checking_told (loads {s = seen.TooLarge m}) agrees t = unknown t.1
   checking_told (loads {s = seen.Failed}) agrees t = unknown t.1
@@ -365,14 +374,17 @@ told_now j d n s now (inl p) t = subst (λ (z : State). Told j z d n) (sym p) t
 told_now j d n s now (inr p) t = subst (λ (z : State). Told j z d n) (sym p) (told_refused j d n s t)
 
 module _ (j : Job) (job : IsJob j) where
-  all_told : (es : List Event) (s last : State) (d : Disk) (n : ℕ) → IsSound j.actor d → Knows j s d → Told j s d n → Goes j s (own es) last → Honest d es → OthersAreLawful j.actor j.token d es → Told j last (disk d es) (decisions j d n es)
+  all_told : (es : List Event) (s last : State) (d : Disk) (n : ℕ) → IsSound j.actor d → Knows j s d → Told j s d n → Goes j s (own es) last
+      → Honest d es → OthersAreLawful j.actor j.token d es → Told j last (disk d es) (decisions j d n es)
   all_told [] s last d n sound k t goes honest lawful = told_now j d n s last (elim goes [ inl p ↦ inl (sym p) | inr p ↦ inr (sym p) ]) t
   all_told (event.Foreign f ∷ es) s last d n sound k t goes honest lawful =
-      all_told es s last (after_step d f) n lawful.1 (others_knows j d (after_step d f) (lawful_keeps j.actor j.token d f lawful.0) s k) (others_told j job d n sound f lawful.0 s t) goes honest.1 lawful.2
+      all_told es s last (after_step d f) n lawful.1 (others_knows j d (after_step d f) (lawful_keeps j.actor j.token d f lawful.0) s k)
+      (others_told j job d n sound f lawful.0 s t) goes honest.1 lawful.2
   all_told (e ∷ es) s last d n sound k t goes honest lawful =
       let k' = Moments.known_now j job d s goes.0 goes.1 k in
       let kept = Moments.own_step j job d (settled_files j.actor d) (settled_locks j.actor d) (λ m. refl) (λ m. refl) sound goes.0 e goes.2 honest.0 k' in
-      all_told es (after_reply j goes.0 (reply e)) last (after d e) (if is_decision j e d then suc n else n) kept.shows.sound kept.knows (own_told j job d n sound goes.0 e goes.2 honest.0 k' (told_now j d n s goes.0 goes.1 t)) goes.3 honest.1 lawful
+      all_told es (after_reply j goes.0 (reply e)) last (after d e) (if is_decision j e d then suc n else n) kept.shows.sound kept.knows
+      (own_told j job d n sound goes.0 e goes.2 honest.0 k' (told_now j d n s goes.0 goes.1 t)) goes.3 honest.1 lawful
 
 pub decisions_are_told : DecisionsAreTold
 decisions_are_told j d es end run = all_told j run.job es Seizing (Ended end) d 0 run.sound run.fresh refl run.goes run.honest run.lawful

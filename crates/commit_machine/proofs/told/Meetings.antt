@@ -88,7 +88,8 @@ module _ (j : Job) (d : Disk) where
       let p = lock_call (ToLock x.name j.token) n t false false is in
       let same : x.name ≡ n = cc in
       let mem : Mem x.name (all_of j) = names_Mem (edits_of j) x (k.1.within x (inl refl)) in
-      let free : d.locks x.name ≢ Some j.token = elim (k.0.closing.free x.name (subst (Mem x.name) (sym (names-prepare j)) mem)) [ inl h ↦ absurd (k.1.apart x.name h x (inl refl) refl) | inr ne ↦ ne ] in
+      let free : d.locks x.name ≢ Some j.token =
+      elim (k.0.closing.free x.name (subst (Mem x.name) (sym (names-prepare j)) mem)) [ inl h ↦ absurd (k.1.apart x.name h x (inl refl) refl) | inr ne ↦ ne ] in
       others (d.locks n) agrees (subst (λ (m : List ℕ). d.locks m ≢ Some j.token) same free)
   lock_others s n t is agrees k = let w : is_locking (next j s) ≡ true = lock_only (next j s) n t false false is in absurd (cc)
 

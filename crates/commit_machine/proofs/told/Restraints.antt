@@ -259,4 +259,6 @@ no_right_comes actor d (Release n) ne = not_put d.rights n (right_name actor) (w
 
 pub right_is_given_up : RightIsGivenUp
 right_is_given_up j d es end run before =
-    all_fair (λ d. HasRight j.actor d → ⊥) j (λ d has. none_own (d.rights (right_name j.actor)) (sym (put_here d.rights (right_name j.actor) (without_own (d.rights (right_name j.actor)))) ∙ has)) (no_right_comes j.actor) es Seizing (Ended end) d before run.goes
+    all_fair (λ d. HasRight j.actor d → ⊥) j
+    (λ d has. none_own (d.rights (right_name j.actor))
+    (sym (put_here d.rights (right_name j.actor) (without_own (d.rights (right_name j.actor)))) ∙ has)) (no_right_comes j.actor) es Seizing (Ended end) d before run.goes

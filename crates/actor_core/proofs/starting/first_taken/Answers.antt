@@ -1,7 +1,7 @@
-use Rattle.std.proofs.Common.{◌≡◌, ◌<◌, ◌≤◌, length, arith, ap, sym, subst, ◌∙◌, take_all}
+use Rattle.std.proofs.Common.{sym, subst, ◌∙◌, take_all}
 use Rattle.memory_disk.specs.Lists.{named}
 use Rattle.core_steps.proofs.Views.{same_at}
-use Rattle.actor_core.specs.Starting.{AreFit, AreFree, Takes}
+use Rattle.actor_core.specs.Starting.{AreFit, AreFree}
 use Rattle.actor_core.proofs.StartLemmas.{fit_none, free_none, taken_next, taken_there}
 use Rattle.actor_core.proofs.starting.first_taken.Goals as goal
 

@@ -1,8 +1,7 @@
-use Rattle.std.proofs.Common.{◌≡◌, ℕ, List, nat_eq, ◌==◌, ap, sym, ◌∙◌}
+use Rattle.std.proofs.Common.{ℕ, List, nat_eq, ◌==◌, ap, sym, ◌∙◌}
 use Rattle.std.specs.List.{list_any, ends_with}
-use Rattle.memory_disk.specs.Lists.{named, lookup, NamesOnce}
-use Rattle.core_steps.specs.declared.actor.Actor.{Actor}
-use Rattle.actor_core.specs.Starting.{record_tokens, FindsTaken, Takes}
+use Rattle.memory_disk.specs.Lists.{named}
+use Rattle.actor_core.specs.Starting.{FindsTaken, Takes}
 use Rattle.actor_core.proofs.StartLemmas.{looked, takes_own, takes_found, on_ok}
 use Rattle.actor_core.proofs.starting.taken.Goals as goal
 

@@ -15,8 +15,10 @@ returns-in-Some-clause-groups c = ap (λ (cache : Cache). groups_in cache.entrie
 
 pub returns-in-Some-clause-members : goal.returns-in-Some-clause-members
 returns-in-Some-clause-members c =
-    let now : member_count (groups_in c.pop.new.self.entries) ≡ member_count (without (groups_in c.args.groups.now.entries) c.args.name.now) = ap member_count (ap (λ (cache : Cache). groups_in cache.entries) c.pop.ensures.entries ∙ without-view c.args.groups.now.entries c.args.name.now) in
-    let own : length c.in-Some.members.items ≡ own_count (members_of (groups_in c.args.groups.now.entries) c.args.name.now) = ap own_count (ap (option_map (λ (v : Members). v.items)) c.in-Some.ensures.value ∙ members-view c.args.groups.now.entries c.args.name.now) in
+    let now : member_count (groups_in c.pop.new.self.entries) ≡ member_count (without (groups_in c.args.groups.now.entries) c.args.name.now) =
+    ap member_count (ap (λ (cache : Cache). groups_in cache.entries) c.pop.ensures.entries ∙ without-view c.args.groups.now.entries c.args.name.now) in
+    let own : length c.in-Some.members.items ≡ own_count (members_of (groups_in c.args.groups.now.entries) c.args.name.now) =
+    ap own_count (ap (option_map (λ (v : Members). v.items)) c.in-Some.ensures.value ∙ members-view c.args.groups.now.entries c.args.name.now) in
     let len : length c.as_slice.result.now ≡ length c.in-Some.members.items = ap (λ (l : List (List ℕ)). length l) c.as_slice.ensures.value in
     let count = count-without (groups_in c.args.groups.now.entries) c.args.name.now in
     omega arith
@@ -30,7 +32,9 @@ returns-in-None-clause-groups c = ap (λ (cache : Cache). groups_in cache.entrie
 
 pub returns-in-None-clause-members : goal.returns-in-None-clause-members
 returns-in-None-clause-members c =
-    let now : member_count (groups_in c.pop.new.self.entries) ≡ member_count (without (groups_in c.args.groups.now.entries) c.args.name.now) = ap member_count (ap (λ (cache : Cache). groups_in cache.entries) c.pop.ensures.entries ∙ without-view c.args.groups.now.entries c.args.name.now) in
-    let own : 0 ≡ own_count (members_of (groups_in c.args.groups.now.entries) c.args.name.now) = ap own_count (ap (option_map (λ (v : Members). v.items)) c.in-None.ensures.value ∙ members-view c.args.groups.now.entries c.args.name.now) in
+    let now : member_count (groups_in c.pop.new.self.entries) ≡ member_count (without (groups_in c.args.groups.now.entries) c.args.name.now) =
+    ap member_count (ap (λ (cache : Cache). groups_in cache.entries) c.pop.ensures.entries ∙ without-view c.args.groups.now.entries c.args.name.now) in
+    let own : 0 ≡ own_count (members_of (groups_in c.args.groups.now.entries) c.args.name.now) =
+    ap own_count (ap (option_map (λ (v : Members). v.items)) c.in-None.ensures.value ∙ members-view c.args.groups.now.entries c.args.name.now) in
     let count = count-without (groups_in c.args.groups.now.entries) c.args.name.now in
     omega arith

@@ -20,10 +20,12 @@ loop-byte-preserved c =
     let so_far : gives names name (b ∷ rest) ≡ names_in bytes = sym (at_drop_more (gives names name) bytes i 0 lt) ∙ c.loop-byte.invariant in
     elim c.if-parts_names.branch [
       | then-parts_names+in_ok-keep w ↦
-          same-gives _ (names ++ kept name) _ [] rest (w.names-is ∙ w.in_ok-keep.ensures ∙ ap (λ (x : List ℕ). names ++ kept x) w.replace.ensures.value) (w.name-is ∙ w.replace.ensures.after ∙ w.new.ensures)
+          same-gives _ (names ++ kept name) _ [] rest
+          (w.names-is ∙ w.in_ok-keep.ensures ∙ ap (λ (x : List ℕ). names ++ kept x) w.replace.ensures.value) (w.name-is ∙ w.replace.ensures.after ∙ w.new.ensures)
           ∙ (sym (gives-parted b names name rest (sym c.parts_names.ensures ∙ w.if-parts_names.true)) ∙ so_far)
       | else-parts_names+in_ok-push w ↦
-          same-gives _ names _ (name ++ b ∷ []) rest w.names-is (w.name-is ∙ w.in_ok-push.ensures.ok) ∙ (sym (gives-more b names name rest (sym c.parts_names.ensures ∙ w.if-parts_names.false)) ∙ so_far)
+          same-gives _ names _ (name ++ b ∷ []) rest w.names-is (w.name-is ∙ w.in_ok-push.ensures.ok)
+          ∙ (sym (gives-more b names name rest (sym c.parts_names.ensures ∙ w.if-parts_names.false)) ∙ so_far)
     ]
 
 pub returns : goal.returns

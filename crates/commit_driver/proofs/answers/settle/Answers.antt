@@ -40,7 +40,8 @@ returns-in-Ok c =
     in
     let J : List Entry → Type 0 = λ es. Judges changes base (entry_names es) old.files judged made in
     let F : List Entry → Type 0 = λ es. TroubleFits (length es) judged in
-    settles-so plan changes base old c.write_decision.new.place tails judged c.write_decision.result made are (subst J entries c.judge-result.ensures.judged) (subst F entries c.judge-result.ensures.fits) c.judge-result.ensures.long c.write_decision.ensures
+    settles-so plan changes base old c.write_decision.new.place tails judged c.write_decision.result made are
+    (subst J entries c.judge-result.ensures.judged) (subst F entries c.judge-result.ensures.fits) c.judge-result.ensures.long c.write_decision.ensures
 
 pub returns-in-Err : goal.returns-in-Err
 returns-in-Err c = settles-short c.args.plan.now c.args.changes.now (base_list (option_copied c.args.base)) c.args.place.now

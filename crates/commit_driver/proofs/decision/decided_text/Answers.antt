@@ -10,4 +10,6 @@ pub write-requires : goal.write-requires
 write-requires c =
     let token = c.args.value.now.token in
     let moment = c.args.value.now.moment in
-    subst (λ (es : List Entry). is_valid (record { phase = Go; token = token; moment = moment; entries = es }) ≡ true) (sym (c.in_ok-decided_entries.ensures ∙ ap (λ (es : List Entry). decided_entries es c.args.ways.now) c.items.ensures)) (decided-valid c.args.value.now c.args.ways.now c.requires.ways c.requires.valid)
+    subst (λ (es : List Entry). is_valid (record { phase = Go; token = token; moment = moment; entries = es }) ≡ true)
+    (sym (c.in_ok-decided_entries.ensures ∙ ap (λ (es : List Entry). decided_entries es c.args.ways.now) c.items.ensures))
+    (decided-valid c.args.value.now c.args.ways.now c.requires.ways c.requires.valid)

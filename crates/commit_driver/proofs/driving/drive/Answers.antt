@@ -17,7 +17,8 @@ loop-call-preserved g c =
     c.loop-call.invariant c.in-Some.ensures.next c.after.ensures c.perform-reply.ensures.cause c.perform-reply.ensures.ran
 
 pub returns-clause-ran : goal.returns-clause-ran
-returns-clause-ran g c = driven c.args.plan.now c.args.changes.now (base_list (option_copied c.args.base)) c.loop-call.place c.end_at.result c.loop-call.invariant (sym c.next_call.ensures.at ∙ c.in_default.is) c.end_at.ensures
+returns-clause-ran g c = driven c.args.plan.now c.args.changes.now
+    (base_list (option_copied c.args.base)) c.loop-call.place c.end_at.result c.loop-call.invariant (sym c.next_call.ensures.at ∙ c.in_default.is) c.end_at.ensures
 
 pub after-requires-clause-counted : goal.after-requires-clause-counted
 after-requires-clause-counted g c = record { few = c.requires.safe.few; some = c.requires.safe.some; valid = c.requires.safe.valid }

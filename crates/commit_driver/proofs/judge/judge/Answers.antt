@@ -26,13 +26,15 @@ judge_one-requires-clause-based c =
 
 pub judge_one-requires-clause-at : goal.judge_one-requires-clause-at
 judge_one-requires-clause-at c =
-    let below = at-below c.args.changes.now (base_list (option_copied c.args.base)) (names_of c.args.entries.now) c.args.files.now c.loop-change.files c.loop-change.files c.loop-change.change-index c.number_of-at.result c.change-item.result
+    let below = at-below c.args.changes.now (base_list (option_copied c.args.base))
+    (names_of c.args.entries.now) c.args.files.now c.loop-change.files c.loop-change.files c.loop-change.change-index c.number_of-at.result c.change-item.result
     (omega arith) c.change-item.is c.requires.named (c.number_of-at.ensures.number ∙ ap (number_in (names_of c.args.entries.now)) c.change_name.ensures) in
     omega (arith, below, c.loop-change.invariant.long, c.requires.long, length-map (λ (e : Entry). e.name) c.args.entries.now)
 
 pub loop-change-preserved : goal.loop-change-preserved
 loop-change-preserved c =
-    judged-next c.args.changes.now (base_list (option_copied c.args.base)) (names_of c.args.entries.now) c.args.files.now c.loop-change.files c.judge_one.new.files c.loop-change.change-index c.number_of-at.result c.change-item.result
+    judged-next c.args.changes.now (base_list (option_copied c.args.base))
+    (names_of c.args.entries.now) c.args.files.now c.loop-change.files c.judge_one.new.files c.loop-change.change-index c.number_of-at.result c.change-item.result
     (omega arith) c.change-item.is c.requires.named (c.number_of-at.ensures.number ∙ ap (number_in (names_of c.args.entries.now)) c.change_name.ensures)
     c.loop-change.invariant c.in_ok-judge_one.field-0 c.in_ok-judge_one.ensures
 
@@ -41,7 +43,8 @@ returns-in_err-judge_one-clause-judged c =
     let p = err_from_is_err_and c.from_residual.result c.from_residual.ensures.1 in
     let is : c.from_residual.result ≡ Err c.in_err-judge_one.field-0.0 = p.1 ∙ ap (λ (t : Trouble). Err t) p.2 in
     subst (λ (r : Result Unit Trouble). Judges c.args.changes.now (base_list (option_copied c.args.base)) (names_of c.args.entries.now) c.args.files.now r c.judge_one.new.files) (sym is)
-    (judged-not c.args.changes.now (base_list (option_copied c.args.base)) (names_of c.args.entries.now) c.args.files.now c.loop-change.files c.judge_one.new.files c.loop-change.change-index c.number_of-at.result c.change-item.result
+    (judged-not c.args.changes.now (base_list (option_copied c.args.base))
+    (names_of c.args.entries.now) c.args.files.now c.loop-change.files c.judge_one.new.files c.loop-change.change-index c.number_of-at.result c.change-item.result
     (omega arith) c.change-item.is c.requires.named (c.number_of-at.ensures.number ∙ ap (number_in (names_of c.args.entries.now)) c.change_name.ensures)
     c.loop-change.invariant c.in_err-judge_one.field-0.0 c.judge_one.new.files c.in_err-judge_one.ensures)
 
@@ -54,7 +57,8 @@ pub returns-in_err-judge_one-clause-fits : goal.returns-in_err-judge_one-clause-
 returns-in_err-judge_one-clause-fits c =
     let p = err_from_is_err_and c.from_residual.result c.from_residual.ensures.1 in
     let is : c.from_residual.result ≡ Err c.in_err-judge_one.field-0.0 = p.1 ∙ ap (λ (t : Trouble). Err t) p.2 in
-    let fits = fits-so c.args.changes.now (base_list (option_copied c.args.base)) (names_of c.args.entries.now) c.args.files.now c.loop-change.files c.judge_one.new.files c.loop-change.change-index c.number_of-at.result c.change-item.result
+    let fits = fits-so c.args.changes.now (base_list (option_copied c.args.base))
+    (names_of c.args.entries.now) c.args.files.now c.loop-change.files c.judge_one.new.files c.loop-change.change-index c.number_of-at.result c.change-item.result
     (omega arith) c.change-item.is c.requires.named (c.number_of-at.ensures.number ∙ ap (number_in (names_of c.args.entries.now)) c.change_name.ensures)
     c.in_err-judge_one.field-0.0 c.in_err-judge_one.ensures in
     subst (λ (r : Result Unit Trouble). TroubleFits (length c.args.entries.now) r) (sym is)

@@ -11,6 +11,12 @@ returns c =
     let text = c.in_ok-text.text in
     let eq : c.is_same.result ≡ bytes_eq text bytes = c.is_same.ensures in
     let decides = bytes_eq-Decides text bytes in (
-      λ is. record { valid = sym c.is_valid.ensures ∙ c.if-not-is_valid.false; token_fits = omega arith; numbers_fit = ap (list_all fits_number) (sym c.items.ensures) ∙ sym c.fit_numbers.ensures ∙ c.if-not-fit_numbers.false; is = sym (decides.0 (sym eq ∙ is)) ∙ c.in_ok-text.ensures },
+      λ is. record {
+        valid = sym c.is_valid.ensures ∙ c.if-not-is_valid.false;
+        token_fits = omega arith;
+        numbers_fit =
+            ap (list_all fits_number) (sym c.items.ensures) ∙ sym c.fit_numbers.ensures ∙ c.if-not-fit_numbers.false;
+        is = sym (decides.0 (sym eq ∙ is)) ∙ c.in_ok-text.ensures;
+      },
       λ w. eq ∙ decides.1 (c.in_ok-text.ensures ∙ sym w.is),
     )

@@ -6,7 +6,8 @@ use Rattle.commit_record.proofs.reader.read.Goals as goal
 
 pub returns-in-Some-clause-not_a_record : goal.returns-in-Some-clause-not_a_record
 returns-in-Some-clause-not_a_record c = λ refused r w.
-    c.checked.ensures.not_a_record refused (subst (λ (x : Record). IsWritten c.args.bytes.now x) (found-is c.args.bytes.now c.in_ok-found.found c.in-Some.value r c.in-Some.is c.in_ok-found.ensures w) w)
+    c.checked.ensures.not_a_record refused (subst (λ (x : Record). IsWritten c.args.bytes.now x)
+    (found-is c.args.bytes.now c.in_ok-found.found c.in-Some.value r c.in-Some.is c.in_ok-found.ensures w) w)
 
 pub returns-in-Some-clause-read_back : goal.returns-in-Some-clause-read_back
 returns-in-Some-clause-read_back c = λ r w.

@@ -9,5 +9,7 @@ cut_names-requires c =
 
 pub returns : goal.returns
 returns c =
-    let are = addressees-are c.args.dropped.now c.args.names c.items.result.now c.items-2.result.now c.put_others.new.names c.put_others-2.new.names c.args.header.now c.len-count.result c.requires (c.items.ensures ∙ c.in_ok-to.ensures) (c.items-2.ensures ∙ c.in_ok-cc.ensures) c.in_ok-put_others.ensures c.len-count.ensures c.in_ok-put_others-2.ensures in
+    let are = addressees-are c.args.dropped.now c.args.names c.items.result.now c.items-2.result.now c.put_others.new.names c.put_others-2.new.names
+    c.args.header.now c.len-count.result c.requires (c.items.ensures ∙ c.in_ok-to.ensures)
+    (c.items-2.ensures ∙ c.in_ok-cc.ensures) c.in_ok-put_others.ensures c.len-count.ensures c.in_ok-put_others-2.ensures in
     subst (λ (p : Names × Names). IfOk c.cut_names.result (λ parts. (parts.0 ≡ p.0) × (parts.1 ≡ p.1))) (λ i. (are.0 i, are.1 i)) c.cut_names.ensures

@@ -16,4 +16,5 @@ returns-in-None-clause-more c =
     let folder = c.args.folder.now in
     let stays : c.grow_by_tail.new.folder ≡ folder = c.grow_by_tail.ensures.stays (λ done. absurd (cc (done, c.in_ok-grow_by_tail.was, c.if-branch.false))) in
     let same : None ≡ changed_from (texts_of folder) (list_of c.args.bytes) = search rules in
-    if-done c.reopen.result _ _ (λ is. more-than c.args.name.now folder c.args.bytes c.reopen.new.folder (listed-grown c.args.name.now folder c.args.bytes c.reopen.new.folder same is)) c.reopen.ensures.ok
+    if-done c.reopen.result _ _ (λ is. more-than c.args.name.now folder c.args.bytes c.reopen.new.folder
+    (listed-grown c.args.name.now folder c.args.bytes c.reopen.new.folder same is)) c.reopen.ensures.ok

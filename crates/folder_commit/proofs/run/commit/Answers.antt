@@ -11,11 +11,13 @@ returns-clause-safe g c = λ before es at to may.
     ran-safely c.args.actor.now c.args.token c.args.changes.now (base_list (option_copied c.args.base)) c.whole.result before es c.ranges.token.fits c.requires.files c.whole.ensures.ran at to may
 
 pub returns-clause-told : goal.returns-clause-told
-returns-clause-told g c = Ran-map (λ es h. is-told c.args.actor.now c.args.token c.args.changes.now (base_list (option_copied c.args.base)) es c.whole.result c.ranges.token.fits c.requires.files h) c.whole.ensures.ran
+returns-clause-told g c = Ran-map (λ es h. is-told c.args.actor.now c.args.token c.args.changes.now
+    (base_list (option_copied c.args.base)) es c.whole.result c.ranges.token.fits c.requires.files h) c.whole.ensures.ran
 
 pub returns-clause-complete : goal.returns-clause-complete
 returns-clause-complete g c = λ before es at to may.
-    ran-completely c.args.actor.now c.args.token c.args.changes.now (base_list (option_copied c.args.base)) c.whole.result before es c.ranges.token.fits c.requires.files c.whole.ensures.cause c.whole.ensures.ran at to may
+    ran-completely c.args.actor.now c.args.token c.args.changes.now
+    (base_list (option_copied c.args.base)) c.whole.result before es c.ranges.token.fits c.requires.files c.whole.ensures.cause c.whole.ensures.ran at to may
 
 pub returns-clause-steps : goal.returns-clause-steps
 returns-clause-steps g c = λ before es at to.

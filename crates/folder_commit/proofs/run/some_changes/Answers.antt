@@ -42,7 +42,8 @@ returns-in_err-plan-clause-ran g c =
 
 pub returns-in_err-files-clause-ran : goal.returns-in_err-files-clause-ran
 returns-in_err-files-clause-ran g c =
-    Ran-none (of-memory c.args.actor.now c.args.token c.args.changes.now (base_list (option_copied c.args.base)) c.from_residual-in_err-files.result c.requires.some (err_from_is_err_and c.from_residual-in_err-files.result c.from_residual-in_err-files.ensures.1))
+    Ran-none (of-memory c.args.actor.now c.args.token c.args.changes.now
+    (base_list (option_copied c.args.base)) c.from_residual-in_err-files.result c.requires.some (err_from_is_err_and c.from_residual-in_err-files.result c.from_residual-in_err-files.ensures.1))
 
 pub begin-requires : goal.begin-requires
 begin-requires g c = subst IsFileName (sym (c.bytes.ensures ∙ ap (λ (q : Plan). q.right) c.in_ok-plan.ensures.1)) (right-file c.args.actor.now c.requires.short c.requires.no_zero)
@@ -55,7 +56,8 @@ returns-in-Busy-clause-ran g c =
     let base = base_list (option_copied c.args.base) in
     let j = timed_for actor token any_time cs base in
     let right = ap (λ (q : Plan). q.right) c.in_ok-plan.ensures.1 in
-    Ran-map (λ es b. kept-out actor token cs base c.in_ok-plan.plan.right es c.requires.some c.in_ok-plan.ensures.0 right (subst (λ (r : Begun). Begins j r es) c.in-Busy.is b)) (c.begin.ensures.ran j (c.bytes.ensures ∙ right))
+    Ran-map (λ es b. kept-out actor token cs base c.in_ok-plan.plan.right es c.requires.some c.in_ok-plan.ensures.0 right
+    (subst (λ (r : Begun). Begins j r es) c.in-Busy.is b)) (c.begin.ensures.ran j (c.bytes.ensures ∙ right))
 
 pub returns-in-Busy-clause-named : goal.returns-in-Busy-clause-named
 returns-in-Busy-clause-named g c = busy-named c.args.actor.now c.args.changes.now c.in_ok-plan.plan.right c.requires.some (ap (λ (q : Plan). q.right) c.in_ok-plan.ensures.1)
@@ -104,7 +106,8 @@ returns-in-Err-clause-ran g c =
     let front : Ran g.H.Host.world c.args.host.now c.ask.new.host (λ (es : List Event). AreFine es × Goes j Seizing es Looking) =
     Ran-then (λ xs ys b d. timed (job_for actor token cs base) time xs ys (subst (λ (r : Begun). Begins j r xs) c.in-Taken.is b) d) (c.begin.ensures.ran j (c.bytes.ensures ∙ right)) c.ask.ensures.ran
     in
-    Ran-then (λ xs ys b d. not-dated actor token time cs base (xs ++ ys) c.requires.some c.in_ok-plan.ensures.0 (timed-short (job_for actor token cs base) time c.bytes-in-Err.result.now (c.bytes-in-Err.ensures ∙ c.date.ensures.right ∙ right) xs ys b d)) front c.release.ensures.ran
+    Ran-then (λ xs ys b d. not-dated actor token time cs base (xs ++ ys) c.requires.some c.in_ok-plan.ensures.0
+    (timed-short (job_for actor token cs base) time c.bytes-in-Err.result.now (c.bytes-in-Err.ensures ∙ c.date.ensures.right ∙ right) xs ys b d)) front c.release.ensures.ran
 
 pub returns-in-Err-clause-named : goal.returns-in-Err-clause-named
 returns-in-Err-clause-named g c = short-named c.args.actor.now c.args.changes.now c.requires.some
@@ -174,7 +177,8 @@ returns-clause-cause g c =
     let nearest = read ∙ c.nearest_moment-moment.ensures.value ∙ ap nearest_moment told in
     let is = c.in-Ok.ensures.done ∙ ap (λ (m : ℤ). dated_plan m c.in_ok-plan.plan) nearest ∙ ap (λ (q : Plan). dated_plan (nearest_moment time) q) c.in_ok-plan.ensures.1 in
     let A : Plan → Type 0 = λ q. CommitCause mid now (answer_of e q place) in
-    let caused : CommitCause mid now c.answer.result = subst (CommitCause mid now) (sym c.answer.ensures) (subst A (sym is) (is-caused actor token time cs place e mid now c.drive-end.ensures.cause)) in
+    let caused : CommitCause mid now c.answer.result =
+    subst (CommitCause mid now) (sym c.answer.ensures) (subst A (sym is) (is-caused actor token time cs place e mid now c.drive-end.ensures.cause)) in
     let began = c.begin.ensures.ran (job_for actor token cs (base_list (option_copied c.args.base))) (c.bytes.ensures ∙ ap (λ (q : Plan). q.right) c.in_ok-plan.ensures.1) in
     caused-back old begun now c.answer.result began.never_fall.disks (caused-back begun mid now c.answer.result c.ask.ensures.ran.never_fall.disks caused)
 

@@ -38,7 +38,8 @@ returns-clause-ran g c = λ token.
     Ran-then (λ xs ys b d.
     let began = subst (λ (r : Begun). Begins j r xs) c.in-Taken.is b in
     let whole = driven-whole j place.found e xs ys ((began.within, began.fit), began.goes) d in
-    subst (R (xs ++ ys)) (sym c.answer.ensures) (subst (A (xs ++ ys)) (sym is) (recovers actor token place e (xs ++ ys) c.drive-end.ensures.place.staged_are (subst F is c.drive-end.ensures.fits) whole)))
+    subst (R (xs ++ ys)) (sym c.answer.ensures)
+    (subst (A (xs ++ ys)) (sym is) (recovers actor token place e (xs ++ ys) c.drive-end.ensures.place.staged_are (subst F is c.drive-end.ensures.fits) whole)))
     (c.begin.ensures.ran j (c.bytes.ensures ∙ ap (λ (q : Plan). q.right) is))
     (c.drive-end.ensures.ran j (subst P (sym is) (is-plan actor token)) (inl refl))
 
@@ -64,7 +65,8 @@ returns-clause-cause g c =
     let e = c.drive-end.result.0 in
     let place = c.drive-end.result.1 in
     let A : Plan → Type 0 = λ q. RecoverCause mid now (answer_of e q place) in
-    let caused : RecoverCause mid now c.answer.result = subst (RecoverCause mid now) (sym c.answer.ensures) (subst A (sym c.in_ok-plan.ensures) (is-caused c.args.actor.now place e mid now c.drive-end.ensures.cause)) in
+    let caused : RecoverCause mid now c.answer.result =
+    subst (RecoverCause mid now) (sym c.answer.ensures) (subst A (sym c.in_ok-plan.ensures) (is-caused c.args.actor.now place e mid now c.drive-end.ensures.cause)) in
     let began = c.begin.ensures.ran (recovery_for c.args.actor.now 0) (c.bytes.ensures ∙ ap (λ (q : Plan). q.right) c.in_ok-plan.ensures) in
     caused-back old mid now c.answer.result began.never_fall.disks caused
 

@@ -20,7 +20,8 @@ returns-in-Some-clause-planned c =
       fails = ap (λ p. is_some p || is_refused there c.args.event) (c.in-Some.ensures ∙ same_part);
       is =
           told-as-planned _ _ _ before _ _ (steps_before c.args.plan.now.foreign call) _ _ (part_at c.args.plan.now.fails call) _ (ap (λ (v : DiskView). disk_of v.files v.locks) c.in-Ok.ensures.start)
-          (c.in-Ok.ensures.ok ∙ ap (λ f. before ++ map Foreign (steps_before f call)) c.items.ensures) c.add_others.new.tape.shows refl (c.failing-part.ensures ∙ same_part) c.in_ok-answer-in-Ok.ensures.told;
+          (c.in-Ok.ensures.ok ∙ ap (λ f. before ++ map Foreign (steps_before f call)) c.items.ensures) c.add_others.new.tape.shows refl
+          (c.failing-part.ensures ∙ same_part) c.in_ok-answer-in-Ok.ensures.told;
     }
 
 pub returns-in-Some-clause-ok : goal.returns-in-Some-clause-ok
@@ -34,7 +35,8 @@ returns-in-Some-clause-ok c =
       own = cut_short there c.args.event part;
       is =
           told-as-planned _ _ _ before _ _ (steps_before c.args.plan.now.foreign call) _ _ (Some part) _ (ap (λ (v : DiskView). disk_of v.files v.locks) c.in-Ok.ensures.start)
-          (c.in-Ok.ensures.ok ∙ ap (λ f. before ++ map Foreign (steps_before f call)) c.items.ensures) c.add_others.new.tape.shows refl (c.failing-part.ensures ∙ sym c.in-Some.ensures) c.in_ok-answer-in-Ok.ensures.told;
+          (c.in-Ok.ensures.ok ∙ ap (λ f. before ++ map Foreign (steps_before f call)) c.items.ensures) c.add_others.new.tape.shows refl
+          (c.failing-part.ensures ∙ sym c.in-Some.ensures) c.in_ok-answer-in-Ok.ensures.told;
       happened = (part, refl);
     }
 

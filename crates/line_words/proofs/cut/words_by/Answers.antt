@@ -37,12 +37,15 @@ loop-byte-preserved c =
         fits = depth_by lists place b i step _ is w.place-is c.loop-byte.invariant.fits;
       }
       | in-Keep+in_ok-push-in-Keep w ↦ record {
-        same = same_gives lists _ _ _ _ _ (word ++ b ∷ []) rest w.place-is w.words-is (w.word-is ∙ w.in_ok-push-in-Keep.ensures.ok) ∙ given_by lists place words word b rest _ step Keep is w.in-Keep.is ready so_far;
+        same = same_gives lists _ _ _ _ _ (word ++ b ∷ []) rest w.place-is w.words-is (w.word-is ∙ w.in_ok-push-in-Keep.ensures.ok)
+            ∙ given_by lists place words word b rest _ step Keep is w.in-Keep.is ready so_far;
         ready = same_ready _ _ _ (word ++ b ∷ []) w.place-is (w.word-is ∙ w.in_ok-push-in-Keep.ensures.ok) (ready_by lists place word b step Keep is w.in-Keep.is ready);
         fits = depth_by lists place b i step _ is w.place-is c.loop-byte.invariant.fits;
       }
       | in-End+in_ok-push-in-End w ↦ record {
-        same = same_gives lists _ _ _ (words ++ word ∷ []) _ [] rest w.place-is (w.words-is ∙ w.in_ok-push-in-End.ensures.ok ∙ ap (λ (x : List ℕ). words ++ x ∷ []) w.replace.ensures.value) (w.word-is ∙ w.replace.ensures.after ∙ w.new.ensures) ∙ given_by lists place words word b rest _ step End is w.in-End.is ready so_far;
+        same = same_gives lists _ _ _ (words ++ word ∷ []) _ [] rest w.place-is
+            (w.words-is ∙ w.in_ok-push-in-End.ensures.ok ∙ ap (λ (x : List ℕ). words ++ x ∷ []) w.replace.ensures.value)
+            (w.word-is ∙ w.replace.ensures.after ∙ w.new.ensures) ∙ given_by lists place words word b rest _ step End is w.in-End.is ready so_far;
         ready = same_ready _ _ _ [] w.place-is (w.word-is ∙ w.replace.ensures.after ∙ w.new.ensures) (ready_by lists place word b step End is w.in-End.is ready);
         fits = depth_by lists place b i step _ is w.place-is c.loop-byte.invariant.fits;
       }

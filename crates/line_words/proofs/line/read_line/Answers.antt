@@ -9,10 +9,13 @@ returns-then-line-gt-LONGEST-clause-reads c = inl (sym (reading_long c.args.line
 reads-in-Some : goal.returns-in-Some-clause-reads
 reads-in-Some c =
     let line = c.args.line.now in
-    let word = word_is line c.split_at.result.1.now c.split_at-2.result.0.now c.blank_length.result c.word_length.result c.blank_length.ensures.value c.split_at.ensures.back c.word_length.ensures.value c.split_at-2.ensures.front in
-    let after = after_is line c.split_at.result.1.now c.split_at-2.result.1.now c.blank_length.result c.word_length.result c.blank_length.ensures.value c.split_at.ensures.back c.word_length.ensures.value c.split_at-2.ensures.back in
+    let word = word_is line c.split_at.result.1.now c.split_at-2.result.0.now c.blank_length.result c.word_length.result c.blank_length.ensures.value
+    c.split_at.ensures.back c.word_length.ensures.value c.split_at-2.ensures.front in
+    let after = after_is line c.split_at.result.1.now c.split_at-2.result.1.now c.blank_length.result c.word_length.result
+    c.blank_length.ensures.value c.split_at.ensures.back c.word_length.ensures.value c.split_at-2.ensures.back in
     or_memory c.read_as.result _ (reading line) c.read_as.ensures
-    (read_short line c.split_at-2.result.0.now c.split_at-2.result.1.now c.command_named.result (Some c.in-Some.command) c.if-line-gt-LONGEST.false word after c.command_named.ensures (sym c.in-Some.is))
+    (read_short line c.split_at-2.result.0.now c.split_at-2.result.1.now c.command_named.result
+    (Some c.in-Some.command) c.if-line-gt-LONGEST.false word after c.command_named.ensures (sym c.in-Some.is))
 
 pub returns-in-Some-clause-reads : goal.returns-in-Some-clause-reads
 returns-in-Some-clause-reads c = reads-in-Some c
@@ -29,7 +32,9 @@ returns-in-Some-clause-open_quote c = open_comes c.args.line.now c.read_as.resul
 pub returns-in-None-clause-reads : goal.returns-in-None-clause-reads
 returns-in-None-clause-reads c =
     let line = c.args.line.now in
-    let word = word_is line c.split_at.result.1.now c.split_at-2.result.0.now c.blank_length.result c.word_length.result c.blank_length.ensures.value c.split_at.ensures.back c.word_length.ensures.value c.split_at-2.ensures.front in
-    let after = after_is line c.split_at.result.1.now c.split_at-2.result.1.now c.blank_length.result c.word_length.result c.blank_length.ensures.value c.split_at.ensures.back c.word_length.ensures.value c.split_at-2.ensures.back in
+    let word = word_is line c.split_at.result.1.now c.split_at-2.result.0.now c.blank_length.result c.word_length.result c.blank_length.ensures.value
+    c.split_at.ensures.back c.word_length.ensures.value c.split_at-2.ensures.front in
+    let after = after_is line c.split_at.result.1.now c.split_at-2.result.1.now c.blank_length.result c.word_length.result
+    c.blank_length.ensures.value c.split_at.ensures.back c.word_length.ensures.value c.split_at-2.ensures.back in
     or_unknown c.unknown.result c.split_at-2.result.0.now (reading line) c.unknown.ensures
     (read_short line c.split_at-2.result.0.now c.split_at-2.result.1.now c.command_named.result None c.if-line-gt-LONGEST.false word after c.command_named.ensures (sym c.in-None.is))

@@ -7,7 +7,9 @@ use Rattle.mail_addresses.proofs.mailbox.name_address.Goals as goal
 
 pub returns-then-not-are_gaps : goal.returns-then-not-are_gaps
 returns-then-not-are_gaps c = λ a is.
-    both_ways _ c.if-not-are_gaps.true (c.are_gaps.ensures ∙ (angled_parts (tokens_in c.args.front.now) (tokens_in c.args.back.now) (tokens_in c.in-Some.inside.now) (tokens_in c.in-Some.after.now) a c.in-Some.ensures.0 c.in-Some.ensures.1 is).gaps_after)
+    both_ways _ c.if-not-are_gaps.true (c.are_gaps.ensures
+    ∙ (angled_parts (tokens_in c.args.front.now) (tokens_in c.args.back.now) (tokens_in c.in-Some.inside.now)
+    (tokens_in c.in-Some.after.now) a c.in-Some.ensures.0 c.in-Some.ensures.1 is).gaps_after)
 
 pub returns-in-None-name : goal.returns-in-None-name
 returns-in-None-name c = λ a is.

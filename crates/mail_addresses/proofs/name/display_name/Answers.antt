@@ -46,5 +46,6 @@ returns c =
     let name = c.loop-token.name in
     let begun = c.loop-token.begun in
     let apart = c.loop-token.apart in
-    let ended : name_from begun apart (tokens_in c.loop-token.rest.now) ≡ Some [] = ap (name_from begun apart) (in_none c.loop-token.rest.now c.in_default.ensures) ∙ name_from-end begun apart 0 [] (omega arith) in
+    let ended : name_from begun apart (tokens_in c.loop-token.rest.now) ≡ Some [] =
+    ap (name_from begun apart) (in_none c.loop-token.rest.now c.in_default.ensures) ∙ name_from-end begun apart 0 [] (omega arith) in
     read_is_name (tokens_in c.args.bytes.now) name (sym c.loop-token.invariant ∙ ap (after name) ended ∙ ap (λ (x : List ℕ). Some x) (append-nil name))

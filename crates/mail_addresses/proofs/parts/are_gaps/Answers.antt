@@ -11,10 +11,12 @@ pub loop-token-smaller : goal.loop-token-smaller
 loop-token-smaller c = token_less c.in-Some.token c.loop-token.rest.now c.in-Some.after.now c.in-Some.ensures.0 c.in-Some.ensures.1
 
 pub loop-token-preserved : goal.loop-token-preserved
-loop-token-preserved c = walked_more is_gap c.args.bytes.now c.loop-token.rest.now c.in-Some.after.now c.in-Some.token c.loop-token.invariant c.in-Some.ensures.0 c.in-Some.ensures.1 (sym c.is_gap.ensures ∙ c.if-not-is_gap.false)
+loop-token-preserved c = walked_more is_gap c.args.bytes.now c.loop-token.rest.now c.in-Some.after.now c.in-Some.token c.loop-token.invariant
+    c.in-Some.ensures.0 c.in-Some.ensures.1 (sym c.is_gap.ensures ∙ c.if-not-is_gap.false)
 
 pub returns-then-not-is_gap : goal.returns-then-not-is_gap
-returns-then-not-is_gap c = sym (walked_fails is_gap c.args.bytes.now c.loop-token.rest.now c.in-Some.after.now c.in-Some.token c.loop-token.invariant c.in-Some.ensures.0 c.in-Some.ensures.1 (sym c.is_gap.ensures ∙ c.if-not-is_gap.true))
+returns-then-not-is_gap c = sym (walked_fails is_gap c.args.bytes.now c.loop-token.rest.now c.in-Some.after.now c.in-Some.token c.loop-token.invariant
+    c.in-Some.ensures.0 c.in-Some.ensures.1 (sym c.is_gap.ensures ∙ c.if-not-is_gap.true))
 
 pub returns : goal.returns
 returns c = sym (walked_all is_gap c.args.bytes.now c.loop-token.rest.now c.loop-token.invariant c.in_default.ensures)

@@ -11,7 +11,8 @@ pub loop-token-smaller : goal.loop-token-smaller
 loop-token-smaller c = token_less c.in-Some.token c.loop-token.rest.now c.in-Some.after.now c.in-Some.ensures.0 c.in-Some.ensures.1
 
 pub loop-token-preserved : goal.loop-token-preserved
-loop-token-preserved c = walked_more is_gap c.args.bytes.now c.loop-token.rest.now c.in-Some.after.now c.in-Some.token c.loop-token.invariant c.in-Some.ensures.0 c.in-Some.ensures.1 (sym c.is_gap.ensures ∙ c.if-not-is_gap.false)
+loop-token-preserved c = walked_more is_gap c.args.bytes.now c.loop-token.rest.now c.in-Some.after.now c.in-Some.token c.loop-token.invariant
+    c.in-Some.ensures.0 c.in-Some.ensures.1 (sym c.is_gap.ensures ∙ c.if-not-is_gap.false)
 
 pub before-requires : goal.before-requires
 before-requires c = walked_within is_gap c.args.bytes.now c.loop-token.rest.now c.loop-token.invariant
@@ -26,7 +27,8 @@ pub returns-then-not-is_gap-clause-gaps : goal.returns-then-not-is_gap-clause-ga
 returns-then-not-is_gap-clause-gaps c = walked_front is_gap c.args.bytes.now c.loop-token.rest.now c.before-then-not-is_gap.result.now c.loop-token.invariant c.before-then-not-is_gap.ensures
 
 pub returns-then-not-is_gap-clause-ends : goal.returns-then-not-is_gap-clause-ends
-returns-then-not-is_gap-clause-ends c = begins_with is_gap c.loop-token.rest.now c.in-Some.after.now c.in-Some.token c.in-Some.ensures.0 c.in-Some.ensures.1 (sym c.is_gap.ensures ∙ c.if-not-is_gap.true)
+returns-then-not-is_gap-clause-ends c = begins_with is_gap c.loop-token.rest.now c.in-Some.after.now c.in-Some.token c.in-Some.ensures.0
+    c.in-Some.ensures.1 (sym c.is_gap.ensures ∙ c.if-not-is_gap.true)
 
 pub returns-clause-cut : goal.returns-clause-cut
 returns-clause-cut c = walked_cut is_gap c.args.bytes.now c.loop-token.rest.now c.before-2.result.now c.loop-token.invariant c.before-2.ensures

@@ -18,7 +18,8 @@ pub loop-token-preserved : goal.loop-token-preserved
 loop-token-preserved c =
     let piece = c.loop-token.invariant.0 in (
       piece ++ c.in-Some.token ∷ [],
-      piece_more c.args.value.now piece _ c.loop-token.place c.place_after-place.result c.loop-token.rest.now c.in-Some.after.now c.in-Some.token c.loop-token.invariant.1 c.in-Some.ensures.0 c.in-Some.ensures.1
+      piece_more c.args.value.now piece _ c.loop-token.place c.place_after-place.result c.loop-token.rest.now c.in-Some.after.now c.in-Some.token
+          c.loop-token.invariant.1 c.in-Some.ensures.0 c.in-Some.ensures.1
           (sym c.is_cut.ensures ∙ c.if-is_cut.false) c.place_after-place.ensures refl,
     )
 
@@ -30,7 +31,8 @@ returns-then-is_cut c =
     let piece = c.loop-token.invariant.0 in
     let same = ap tokens_in c.before-then-is_cut.ensures ∙ front_alone c.args.value.now c.loop-token.rest.now piece c.loop-token.invariant.1.front in
     subst (λ (ts : List Lexeme). IsPieceBefore c.args.value.now ts c.in-Some.after.now) (sym same)
-    (piece_cut c.args.value.now piece c.loop-token.place c.loop-token.rest.now c.in-Some.after.now c.in-Some.token c.loop-token.invariant.1 c.in-Some.ensures.0 c.in-Some.ensures.1 (sym c.is_cut.ensures ∙ c.if-is_cut.true))
+    (piece_cut c.args.value.now piece c.loop-token.place c.loop-token.rest.now c.in-Some.after.now c.in-Some.token c.loop-token.invariant.1
+    c.in-Some.ensures.0 c.in-Some.ensures.1 (sym c.is_cut.ensures ∙ c.if-is_cut.true))
 
 pub returns : goal.returns
 returns c =

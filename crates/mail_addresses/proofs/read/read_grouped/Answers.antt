@@ -7,11 +7,14 @@ use Rattle.mail_addresses.proofs.read.read_grouped.Goals as goal
 
 pub returns-then-not-are_gaps : goal.returns-then-not-are_gaps
 returns-then-not-are_gaps c = λ list is.
-    both_ways _ c.if-not-are_gaps.true (c.are_gaps.ensures ∙ (grouped_parts (tokens_in c.args.front.now) (tokens_in c.args.back.now) (tokens_in c.in-Some.inside.now) (tokens_in c.in-Some.after.now) list c.in-Some.ensures.0 c.in-Some.ensures.1 is).gaps_after)
+    both_ways _ c.if-not-are_gaps.true (c.are_gaps.ensures
+    ∙ (grouped_parts (tokens_in c.args.front.now) (tokens_in c.args.back.now) (tokens_in c.in-Some.inside.now)
+    (tokens_in c.in-Some.after.now) list c.in-Some.ensures.0 c.in-Some.ensures.1 is).gaps_after)
 
 pub returns-then-not-named : goal.returns-then-not-named
 returns-then-not-named c = λ list is.
-    let group = grouped_parts (tokens_in c.args.front.now) (tokens_in c.args.back.now) (tokens_in c.in-Some.inside.now) (tokens_in c.in-Some.after.now) list c.in-Some.ensures.0 c.in-Some.ensures.1 is in
+    let group = grouped_parts (tokens_in c.args.front.now) (tokens_in c.args.back.now) (tokens_in c.in-Some.inside.now)
+    (tokens_in c.in-Some.after.now) list c.in-Some.ensures.0 c.in-Some.ensures.1 is in
     group.not_empty (MatchBool-at_false _ _ c.if-not-named.true c.in_ok-named-in-Some.ensures group.name group.named)
 
 pub returns-else-not-named : goal.returns-else-not-named

@@ -20,7 +20,8 @@ returns-in-None c =
     let gives = good.2 in (
       inv.added ++ good.0,
       put_more c.args.keep c.args.list.now.items inv.added good.0 _ _ inv.put good.1,
-      reads_last c.args.value.now c.loop-good.rest.now (tokens_in c.first_piece.result.0.now) inv.added good.0 c.loop-good.number inv.read (at_none c.first_piece.result.1 _ _ c.in-None.is c.first_piece.ensures) gives,
+      reads_last c.args.value.now c.loop-good.rest.now (tokens_in c.first_piece.result.0.now) inv.added good.0 c.loop-good.number inv.read
+          (at_none c.first_piece.result.1 _ _ c.in-None.is c.first_piece.ensures) gives,
     )
 
 pub loop-good-preserved : goal.loop-good-preserved

@@ -8,7 +8,8 @@ returns-then-depth-eq0 c =
     let xs = c.args.bytes.now in
     let i = c.loop-i.i in
     let d = c.loop-i.depth in
-    comment_found xs i (sym c.loop-i.invariant.same ∙ close-here _ false d i xs (omega arith) c.if-escaped.false ∙ close-last d i (get_or xs i 0) (drop (i + 1) xs) c.if-b-eq41.true c.if-depth-eq0.true)
+    comment_found xs i (sym c.loop-i.invariant.same ∙ close-here _ false d i xs (omega arith) c.if-escaped.false
+    ∙ close-last d i (get_or xs i 0) (drop (i + 1) xs) c.if-b-eq41.true c.if-depth-eq0.true)
 
 pub loop-i-preserved : goal.loop-i-preserved
 loop-i-preserved c =
@@ -29,15 +30,18 @@ loop-i-preserved c =
         shallow = omega arith;
       }
       | else-escaped+else-b-eq92+then-b-eq40 w ↦ record {
-        same = same_state _ false _ (d + 1) (i + 1) rest (w.escaped-is ∙ w.if-escaped.false) w.depth-is ∙ sym (close-here _ false d i xs lt w.if-escaped.false ∙ close-open d i b rest w.if-b-eq40.true) ∙ so_far;
+        same = same_state _ false _ (d + 1) (i + 1) rest (w.escaped-is ∙ w.if-escaped.false) w.depth-is
+            ∙ sym (close-here _ false d i xs lt w.if-escaped.false ∙ close-open d i b rest w.if-b-eq40.true) ∙ so_far;
         shallow = omega arith;
       }
       | else-escaped+else-b-eq92+else-b-eq40+then-b-eq41+else-depth-eq0 w ↦ record {
-        same = same_state _ false _ (d - 1) (i + 1) rest (w.escaped-is ∙ w.if-escaped.false) w.depth-is ∙ sym (close-here _ false d i xs lt w.if-escaped.false ∙ close-inner d i b rest w.if-b-eq41.true w.if-depth-eq0.false) ∙ so_far;
+        same = same_state _ false _ (d - 1) (i + 1) rest (w.escaped-is ∙ w.if-escaped.false) w.depth-is
+            ∙ sym (close-here _ false d i xs lt w.if-escaped.false ∙ close-inner d i b rest w.if-b-eq41.true w.if-depth-eq0.false) ∙ so_far;
         shallow = omega arith;
       }
       | else-escaped+else-b-eq92+else-b-eq40+else-b-eq41 w ↦ record {
-        same = same_state _ false _ d (i + 1) rest (w.escaped-is ∙ w.if-escaped.false) w.depth-is ∙ sym (close-here _ false d i xs lt w.if-escaped.false ∙ close-byte d i b rest w.if-b-eq92.false w.if-b-eq40.false w.if-b-eq41.false) ∙ so_far;
+        same = same_state _ false _ d (i + 1) rest (w.escaped-is ∙ w.if-escaped.false) w.depth-is
+            ∙ sym (close-here _ false d i xs lt w.if-escaped.false ∙ close-byte d i b rest w.if-b-eq92.false w.if-b-eq40.false w.if-b-eq41.false) ∙ so_far;
         shallow = omega arith;
       }
     ]

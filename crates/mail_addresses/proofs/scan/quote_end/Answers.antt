@@ -27,7 +27,8 @@ loop-i-preserved c =
     elim c.if-escaped.branch [
       | then-escaped w ↦ ap state w.escaped-is ∙ sym (unquote-here _ true i xs lt w.if-escaped.true ∙ unquote-escaped i b rest) ∙ c.loop-i.invariant
       | else-escaped+then-b-eq92 w ↦ ap state w.escaped-is ∙ sym (unquote-here _ false i xs lt w.if-escaped.false ∙ unquote-backslash i b rest w.if-b-eq92.true) ∙ c.loop-i.invariant
-      | else-escaped+else-b-eq92+else-b-eq34 w ↦ ap state (w.escaped-is ∙ w.if-escaped.false) ∙ sym (unquote-here _ false i xs lt w.if-escaped.false ∙ unquote-byte i b rest w.if-b-eq92.false w.if-b-eq34.false) ∙ c.loop-i.invariant
+      | else-escaped+else-b-eq92+else-b-eq34 w ↦ ap state (w.escaped-is ∙ w.if-escaped.false)
+          ∙ sym (unquote-here _ false i xs lt w.if-escaped.false ∙ unquote-byte i b rest w.if-b-eq92.false w.if-b-eq34.false) ∙ c.loop-i.invariant
     ]
 
 pub returns-clause-place : goal.returns-clause-place

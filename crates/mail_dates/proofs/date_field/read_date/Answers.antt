@@ -17,7 +17,14 @@ returns-in_err-time-clause-value c =
 
 pub returns-in_err-offset-clause-value : goal.returns-in_err-offset-clause-value
 returns-in_err-offset-clause-value c =
-    rw (c.from_residual-in_err-offset.ensures, date_time-steps (date_parts c.args.value.now), ← c.in_ok-rest.ensures, ← c.in_ok-day.ensures.value, ← c.in_ok-time.ensures.value, ← c.in_err-offset.ensures.value) refl
+    rw (
+      c.from_residual-in_err-offset.ensures,
+      date_time-steps (date_parts c.args.value.now),
+      ← c.in_ok-rest.ensures,
+      ← c.in_ok-day.ensures.value,
+      ← c.in_ok-time.ensures.value,
+      ← c.in_err-offset.ensures.value,
+    ) refl
 
 pub returns-clause-value : goal.returns-clause-value
 returns-clause-value c =

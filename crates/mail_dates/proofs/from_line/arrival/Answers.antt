@@ -29,16 +29,45 @@ returns-then-not-is_day_name-clause-value c =
 pub returns-in_err-date-clause-value : goal.returns-in_err-date-clause-value
 unfolding arrival moment_value
 returns-in_err-date-clause-value c =
-    rw (c.from_residual-in_err-date.ensures, c.in_ok-name.ensures, c.in_ok-month.ensures, c.in_ok-day.ensures, c.in_ok-time.ensures, ← c.is_day_name.ensures, c.if-not-is_day_name.false, ← c.in_err-date.ensures.value) refl
+    rw (
+      c.from_residual-in_err-date.ensures,
+      c.in_ok-name.ensures,
+      c.in_ok-month.ensures,
+      c.in_ok-day.ensures,
+      c.in_ok-time.ensures,
+      ← c.is_day_name.ensures,
+      c.if-not-is_day_name.false,
+      ← c.in_err-date.ensures.value,
+    ) refl
 
 pub returns-in_err-time-2-clause-value : goal.returns-in_err-time-2-clause-value
 unfolding arrival moment_value
 returns-in_err-time-2-clause-value c =
-    rw (c.from_residual-in_err-time-2.ensures, c.in_ok-name.ensures, c.in_ok-month.ensures, c.in_ok-day.ensures, c.in_ok-time.ensures, ← c.is_day_name.ensures, c.if-not-is_day_name.false, ← c.in_ok-date.ensures.value, ← c.in_err-time-2.ensures.value) refl
+    rw (
+      c.from_residual-in_err-time-2.ensures,
+      c.in_ok-name.ensures,
+      c.in_ok-month.ensures,
+      c.in_ok-day.ensures,
+      c.in_ok-time.ensures,
+      ← c.is_day_name.ensures,
+      c.if-not-is_day_name.false,
+      ← c.in_ok-date.ensures.value,
+      ← c.in_err-time-2.ensures.value,
+    ) refl
 
 pub returns-clause-value : goal.returns-clause-value
 unfolding arrival moment_value
 returns-clause-value c =
     let date_fits : FitsSigned w32 c.in_ok-date.date = omega (arith, ints, c.in_ok-date.ensures.bound) in
     let moment : c.moment.result ≡ moment_of c.in_ok-date.date c.in_ok-time-2.time (pos 0) = simp to_z-of_z at c.moment.ensures.value in
-    rw (c.in_ok-name.ensures, c.in_ok-month.ensures, c.in_ok-day.ensures, c.in_ok-time.ensures, ← c.is_day_name.ensures, c.if-not-is_day_name.false, ← c.in_ok-date.ensures.value, ← c.in_ok-time-2.ensures.value, moment) refl
+    rw (
+      c.in_ok-name.ensures,
+      c.in_ok-month.ensures,
+      c.in_ok-day.ensures,
+      c.in_ok-time.ensures,
+      ← c.is_day_name.ensures,
+      c.if-not-is_day_name.false,
+      ← c.in_ok-date.ensures.value,
+      ← c.in_ok-time-2.ensures.value,
+      moment,
+    ) refl

@@ -9,4 +9,5 @@ returns-then-count-eq0 c =
 
 pub returns : goal.returns
 returns c =
-    number_read c.args.text.now c.in_ok-text.text.now _ _ c.digits_len-count.result c.in_ok-text.ensures.0 c.digits_len-count.ensures.value c.if-count-eq0.false c.split_at.ensures.front c.split_at.ensures.back
+    number_read c.args.text.now c.in_ok-text.text.now _ _ c.digits_len-count.result c.in_ok-text.ensures.0 c.digits_len-count.ensures.value
+    c.if-count-eq0.false c.split_at.ensures.front c.split_at.ensures.back

@@ -13,8 +13,10 @@ returns-then-not-is_sign c =
 
 pub returns-then-count-eq0 : goal.returns-then-count-eq0
 returns-then-count-eq0 c =
-    digits_missing c.args.text.now c.in_ok-text.text.now c.in_ok-sign.tail.now c.in_ok-sign.sign c.in_ok-text.ensures.0 c.in_ok-sign.ensures (sym c.is_sign.ensures ∙ c.if-not-is_sign.false) (omega arith)
+    digits_missing c.args.text.now c.in_ok-text.text.now c.in_ok-sign.tail.now c.in_ok-sign.sign c.in_ok-text.ensures.0 c.in_ok-sign.ensures
+    (sym c.is_sign.ensures ∙ c.if-not-is_sign.false) (omega arith)
 
 pub returns : goal.returns
 returns c =
-    signed_read c.args.text.now c.in_ok-text.text.now c.in_ok-sign.tail.now _ _ c.in_ok-sign.sign c.digits_len-count.result c.in_ok-text.ensures.0 c.in_ok-sign.ensures (sym c.is_sign.ensures ∙ c.if-not-is_sign.false) c.digits_len-count.ensures.value c.if-count-eq0.false c.split_at.ensures.front c.split_at.ensures.back
+    signed_read c.args.text.now c.in_ok-text.text.now c.in_ok-sign.tail.now _ _ c.in_ok-sign.sign c.digits_len-count.result c.in_ok-text.ensures.0
+    c.in_ok-sign.ensures (sym c.is_sign.ensures ∙ c.if-not-is_sign.false) c.digits_len-count.ensures.value c.if-count-eq0.false c.split_at.ensures.front c.split_at.ensures.back

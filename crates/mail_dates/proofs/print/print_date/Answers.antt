@@ -14,4 +14,5 @@ returns c =
     let zone : c.zone.result ≡ zone_text c.whole_minutes.result = simp to_z-of_z at c.zone.ensures in
     rw (c.in_ok-push-4.ensures.ok, c.in_ok-push-3.ensures.ok, c.in_ok-push-2.ensures.ok, c.in_ok-push.ensures.ok, c.in_ok-text.ensures)
     (rw (c.clock.ensures, zone, minutes, c.shown-shown.ensures.time)
-    (day_form (λ weekday day month year. date_form weekday day month year (second_of_day (clock_seconds c.args.m)) (int_div c.args.m.offset (pos 60))) c.shown-shown.result.date (day_number (clock_seconds c.args.m)) c.shown-shown.ensures.day))
+    (day_form (λ weekday day month year. date_form weekday day month year (second_of_day (clock_seconds c.args.m))
+    (int_div c.args.m.offset (pos 60))) c.shown-shown.result.date (day_number (clock_seconds c.args.m)) c.shown-shown.ensures.day))

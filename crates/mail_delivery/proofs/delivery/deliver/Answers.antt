@@ -27,10 +27,14 @@ returns-in-Err-clause-run g c =
     Ran-none (run-short c.args.words.now env fits)
 
 pub returns-in-Ok-Some-clause-input_fault : goal.returns-in-Ok-Some-clause-input_fault
-returns-in-Ok-Some-clause-input_fault g c = λ is. at-input c.carry_out.result (g.H.Host.world.counts c.args.host.now) (g.H.Host.world.counts c.carry_out.new.host) c.carry_out.ensures.plain c.carry_out.ensures.cause (sym c.status_at.ensures ∙ is)
+returns-in-Ok-Some-clause-input_fault g c =
+    λ is. at-input c.carry_out.result (g.H.Host.world.counts c.args.host.now)
+    (g.H.Host.world.counts c.carry_out.new.host) c.carry_out.ensures.plain c.carry_out.ensures.cause (sym c.status_at.ensures ∙ is)
 
 pub returns-in-Ok-Some-clause-disk_fault : goal.returns-in-Ok-Some-clause-disk_fault
-returns-in-Ok-Some-clause-disk_fault g c = λ is. at-disk c.carry_out.result (g.H.Host.world.counts c.args.host.now) (g.H.Host.world.counts c.carry_out.new.host) c.carry_out.ensures.plain c.carry_out.ensures.cause (sym c.status_at.ensures ∙ is)
+returns-in-Ok-Some-clause-disk_fault g c =
+    λ is. at-disk c.carry_out.result (g.H.Host.world.counts c.args.host.now)
+    (g.H.Host.world.counts c.carry_out.new.host) c.carry_out.ensures.plain c.carry_out.ensures.cause (sym c.status_at.ensures ∙ is)
 
 pub returns-in-Ok-Some-clause-usage_only : goal.returns-in-Ok-Some-clause-usage_only
 returns-in-Ok-Some-clause-usage_only g c = λ is. absurd (never-usage c.carry_out.result c.carry_out.ensures.plain (sym c.status_at.ensures ∙ is))

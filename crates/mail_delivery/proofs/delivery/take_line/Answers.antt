@@ -16,7 +16,8 @@ returns-in-Err-clause-ran g c = λ request env.
     Ran-map (λ es goes. line-cut request env c.args.reader.now c.line.new.self c.in-Err.cause c.args.body.now.items c.args.body.now.items es goes) c.in-Err.ensures.ran
 
 pub returns-in-Ok-Some-clause-cause : goal.returns-in-Ok-Some-clause-cause
-returns-in-Ok-Some-clause-cause g c = put-caused (g.H.Host.world.counts c.args.host.now) (g.H.Host.world.counts c.line.new.host) c.put_line.result c.args.body.now.items c.bytes.result.now c.put_line.new.body.items c.put_line.ensures
+returns-in-Ok-Some-clause-cause g c = put-caused (g.H.Host.world.counts c.args.host.now)
+    (g.H.Host.world.counts c.line.new.host) c.put_line.result c.args.body.now.items c.bytes.result.now c.put_line.new.body.items c.put_line.ensures
 
 pub returns-in-Ok-Some-clause-progress : goal.returns-in-Ok-Some-clause-progress
 returns-in-Ok-Some-clause-progress g c = put-progress c.put_line.result _ (rw c.in-Ok-Some.field-0-is at c.in-Ok-Some.ensures.progress)

@@ -8,13 +8,15 @@ loop-start-init c = λ k lt. absurd (omega arith)
 pub loop-start-preserved : goal.loop-start-preserved
 loop-start-preserved c =
     let text = c.args.text.now in
-    let none : NoneBefore text (c.loop-start.start + c.line_length.result) = none-in_line text c.split_at.result.1.now c.loop-start.start c.line_length.result c.split_at.ensures.back c.loop-start.invariant c.line_length.ensures in
+    let none : NoneBefore text (c.loop-start.start + c.line_length.result) =
+    none-in_line text c.split_at.result.1.now c.loop-start.start c.line_length.result c.split_at.ensures.back c.loop-start.invariant c.line_length.ensures in
     none-next text (c.loop-start.start + c.line_length.result) none (sym c.has_two_feeds_at.ensures.two ∙ c.if-has_two_feeds_at.false)
 
 pub returns-then-has_two_feeds_at : goal.returns-then-has_two_feeds_at
 returns-then-has_two_feeds_at c =
     let text = c.args.text.now in
-    let none : NoneBefore text (c.loop-start.start + c.line_length.result) = none-in_line text c.split_at.result.1.now c.loop-start.start c.line_length.result c.split_at.ensures.back c.loop-start.invariant c.line_length.ensures in (
+    let none : NoneBefore text (c.loop-start.start + c.line_length.result) =
+    none-in_line text c.split_at.result.1.now c.loop-start.start c.line_length.result c.split_at.ensures.back c.loop-start.invariant c.line_length.ensures in (
       c.has_two_feeds_at.ensures.within c.if-has_two_feeds_at.true,
       body_of-found text (c.loop-start.start + c.line_length.result) (sym c.has_two_feeds_at.ensures.two ∙ c.if-has_two_feeds_at.true) none,
     )

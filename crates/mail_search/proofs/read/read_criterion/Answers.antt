@@ -25,8 +25,10 @@ loop-reader-preserved c =
     let is = found_first rest c.in_ok-token.field-0 c.in-Some.token c.in-Some.after c.in_ok-token.ensures.tokens c.in-Some.is in
     let no_gap = sym c.is_gap.ensures ∙ c.if-is_gap.false in
     record {
-      spaced = ap (λ (free : Bool). spaced_from free (tokens_of after)) c.is_opener-free.ensures ∙ spaced_first rest after t c.loop-reader.free is no_gap (sym c.may_stand.ensures ∙ c.if-not-may_stand.false) ∙ c.loop-reader.invariant.spaced;
-      read = sym (read_token rest after t (reading_of c.loop-reader.reader) is no_gap ∙ ap (λ (r : Option Reading). after_tokens r (without_gaps (tokens_of after))) (sym c.in_ok-take.ensures.ok)) ∙ c.loop-reader.invariant.read;
+      spaced = ap (λ (free : Bool). spaced_from free (tokens_of after)) c.is_opener-free.ensures
+          ∙ spaced_first rest after t c.loop-reader.free is no_gap (sym c.may_stand.ensures ∙ c.if-not-may_stand.false) ∙ c.loop-reader.invariant.spaced;
+      read = sym (read_token rest after t (reading_of c.loop-reader.reader) is no_gap
+          ∙ ap (λ (r : Option Reading). after_tokens r (without_gaps (tokens_of after))) (sym c.in_ok-take.ensures.ok)) ∙ c.loop-reader.invariant.read;
     }
 
 pub returns-then-not-may_stand-clause-err : goal.returns-then-not-may_stand-clause-err

@@ -12,9 +12,11 @@ returns-then-is_run_byte-clause-tokens c =
 pub returns-then-is_blank-clause-tokens : goal.returns-then-is_blank-clause-tokens
 returns-then-is_blank-clause-tokens c =
     ap (tokens_from outside) c.requires.whole
-    ∙ gap_token c.args.first c.args.after.now (sym c.is_run_byte.ensures ∙ c.if-is_run_byte.false) c.requires.no_quote c.requires.no_open c.requires.no_close (sym c.is_blank.ensures ∙ c.if-is_blank.true)
+    ∙ gap_token c.args.first c.args.after.now
+    (sym c.is_run_byte.ensures ∙ c.if-is_run_byte.false) c.requires.no_quote c.requires.no_open c.requires.no_close (sym c.is_blank.ensures ∙ c.if-is_blank.true)
 
 pub returns-else-is_blank-clause-tokens : goal.returns-else-is_blank-clause-tokens
 returns-else-is_blank-clause-tokens c =
     ap (tokens_from outside) c.requires.whole
-    ∙ bad_token c.args.first c.args.after.now (sym c.is_run_byte.ensures ∙ c.if-is_run_byte.false) c.requires.no_quote c.requires.no_open c.requires.no_close (sym c.is_blank.ensures ∙ c.if-is_blank.false)
+    ∙ bad_token c.args.first c.args.after.now
+    (sym c.is_run_byte.ensures ∙ c.if-is_run_byte.false) c.requires.no_quote c.requires.no_open c.requires.no_close (sym c.is_blank.ensures ∙ c.if-is_blank.false)

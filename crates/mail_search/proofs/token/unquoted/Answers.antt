@@ -22,10 +22,12 @@ loop-i-preserved c =
           let more : c.if-escaped.string ≡ out ++ b ∷ [] = cc (w.string-is, w.in_ok-push.ensures.ok) in
           ap (λ (s : List ℕ). next s c.if-escaped.escaped) more ∙ ap (next (out ++ b ∷ [])) w.escaped-is ∙ turn_escaped out c.loop-i.escaped i xs lt w.if-escaped.true ∙ c.loop-i.invariant
       | else-escaped+then-byte-eq92 w ↦
-          ap (λ (s : List ℕ). next s c.if-escaped.escaped) w.string-is ∙ ap (next out) w.escaped-is ∙ turn_backslash out c.loop-i.escaped i xs lt w.if-escaped.false w.if-byte-eq92.true ∙ c.loop-i.invariant
+          ap (λ (s : List ℕ). next s c.if-escaped.escaped) w.string-is ∙ ap (next out) w.escaped-is
+          ∙ turn_backslash out c.loop-i.escaped i xs lt w.if-escaped.false w.if-byte-eq92.true ∙ c.loop-i.invariant
       | else-escaped+else-byte-eq92+else-byte-eq34+in_ok-push-2 w ↦
           let more : c.if-escaped.string ≡ out ++ b ∷ [] = cc (w.string-is, w.in_ok-push-2.ensures.ok) in
-          ap (λ (s : List ℕ). next s c.if-escaped.escaped) more ∙ ap (next (out ++ b ∷ [])) (w.escaped-is ∙ w.if-escaped.false) ∙ turn_plain out c.loop-i.escaped i xs lt w.if-escaped.false w.if-byte-eq92.false w.if-byte-eq34.false ∙ c.loop-i.invariant
+          ap (λ (s : List ℕ). next s c.if-escaped.escaped) more ∙ ap (next (out ++ b ∷ [])) (w.escaped-is ∙ w.if-escaped.false)
+          ∙ turn_plain out c.loop-i.escaped i xs lt w.if-escaped.false w.if-byte-eq92.false w.if-byte-eq34.false ∙ c.loop-i.invariant
     ]
 
 pub returns-clause-tokens : goal.returns-clause-tokens

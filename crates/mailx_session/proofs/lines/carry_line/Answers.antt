@@ -20,7 +20,8 @@ pub returns-in-Err-Memory-clause-ran : goal.returns-in-Err-Memory-clause-ran
 returns-in-Err-Memory-clause-ran g c = Ran-none (at-memory (line_play c.args.origin c.args.state.now c.args.line.now))
 
 pub returns-in-Ok-clause-done : goal.returns-in-Ok-clause-done
-returns-in-Ok-clause-done g c = carried-ends c.args.origin c.args.state.now.desk c.args.line.now c.in-Ok.steps c.carry_out.result c.in-Ok.ensures.means c.carry_out.ensures.goes_on c.carry_out.ensures.done
+returns-in-Ok-clause-done g c = carried-ends c.args.origin c.args.state.now.desk c.args.line.now c.in-Ok.steps c.carry_out.result
+    c.in-Ok.ensures.means c.carry_out.ensures.goes_on c.carry_out.ensures.done
 
 pub returns-in-Err-Fault-clause-done : goal.returns-in-Err-Fault-clause-done
 returns-in-Err-Fault-clause-done g c = goes-ends c.args.origin c.go_on.result (c.go_on.ensures.goes_on c.say_text.ensures.no_disk)

@@ -72,7 +72,8 @@ returns-in-Ok-Refused-clause-cause g c = c.go_on.ensures.cause (g.H.Host.world.c
 pub returns-in-Ok-Ended-clause-ran : goal.returns-in-Ok-Ended-clause-ran
 returns-in-Ok-Ended-clause-ran g c =
     let s = c.args.state.now in
-    Ran-map (λ es went. goes-as (in_order asked s c.args.steps.asks) (concluded s (λ (t : SessionState). settled t c.args.steps.effects)) (Ended c.in-Ok-Ended.status) (Last c.in-Ok-Ended.status) es refl went)
+    Ran-map (λ es went. goes-as (in_order asked s c.args.steps.asks) (concluded s (λ (t : SessionState). settled t c.args.steps.effects))
+    (Ended c.in-Ok-Ended.status) (Last c.in-Ok-Ended.status) es refl went)
     (rw c.in-Ok-Ended.field-0-is at c.in-Ok-Ended.ensures.ran)
 
 pub returns-in-Err-clause-ran : goal.returns-in-Err-clause-ran

@@ -19,4 +19,5 @@ pub returns-clause-end : goal.returns-clause-end
 returns-clause-end g c = if-ok c.carry_line.result (stays-rested c.args.state.now c.carry_line.new.state c.requires.session c.requires.outside) c.carry_line.ensures.end
 
 pub returns-clause-err : goal.returns-clause-err
-returns-clause-err g c = λ none. on-err c.carry_line.result (λ same. ap rested same ∙ (counted-rested c.args.state.now 1 c.requires.outside ∙ rested-same c.args.state.now c.requires.session)) (c.carry_line.ensures.err none)
+returns-clause-err g c = λ none. on-err c.carry_line.result
+    (λ same. ap rested same ∙ (counted-rested c.args.state.now 1 c.requires.outside ∙ rested-same c.args.state.now c.requires.session)) (c.carry_line.ensures.err none)

@@ -25,7 +25,8 @@ returns-in-Ok-Go-clause-escape g c = λ r.
 pub returns-in-Ok-Go-clause-escape_goes_on : goal.returns-in-Ok-Go-clause-escape_goes_on
 returns-in-Ok-Go-clause-escape_goes_on g c = λ r.
     let same = c.in-Ok-Go.ensures.escape r in
-    goes-on c.typed_line.new.state c.waiting_lines.new.state c.waiting_lines.result (c.waiting_lines.ensures.drafting (ap (λ (s : SessionState). is_drafting s) same ∙ released-inside c.args.state.now c.args.line.now r))
+    goes-on c.typed_line.new.state c.waiting_lines.new.state c.waiting_lines.result
+    (c.waiting_lines.ensures.drafting (ap (λ (s : SessionState). is_drafting s) same ∙ released-inside c.args.state.now c.args.line.now r))
 
 pub returns-in-Ok-End-clause-escape : goal.returns-in-Ok-End-clause-escape
 returns-in-Ok-End-clause-escape g c = λ r. released-rested c.args.state.now c.typed_line.new.state c.args.line.now r (c.in-Ok-End.ensures.escape r)

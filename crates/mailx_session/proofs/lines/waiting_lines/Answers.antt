@@ -31,28 +31,33 @@ lines-init g c = record {
 pub returns-in-Ok-End-clause-ran : goal.returns-in-Ok-End-clause-ran
 returns-in-Ok-End-clause-ran g c =
     let is = rw c.in-Ok-Some.field-0-is at c.in-Ok-Some.ensures.next in
-    Ran-then (waits-ended c.args.state.now c.lines.state c.next_waiting.new.state c.in-Ok-End.status c.in-Ok-Some.line is.0 is.1) c.lines.invariant.ran (rw c.in-Ok-End.field-0-is at c.in-Ok-End.ensures.ran)
+    Ran-then (waits-ended c.args.state.now c.lines.state c.next_waiting.new.state c.in-Ok-End.status c.in-Ok-Some.line is.0 is.1)
+    c.lines.invariant.ran (rw c.in-Ok-End.field-0-is at c.in-Ok-End.ensures.ran)
 
 pub returns-in-Err-waiting_line-clause-ran : goal.returns-in-Err-waiting_line-clause-ran
 returns-in-Err-waiting_line-clause-ran g c =
     let is = rw c.in-Ok-Some.field-0-is at c.in-Ok-Some.ensures.next in
-    Ran-then (waits-cut c.args.state.now c.lines.state c.next_waiting.new.state (stop_of c.in-Err-waiting_line.error) c.in-Ok-Some.line is.0 is.1) c.lines.invariant.ran c.in-Err-waiting_line.ensures.ran
+    Ran-then (waits-cut c.args.state.now c.lines.state c.next_waiting.new.state
+    (stop_of c.in-Err-waiting_line.error) c.in-Ok-Some.line is.0 is.1) c.lines.invariant.ran c.in-Err-waiting_line.ensures.ran
 
 pub lines-smaller : goal.lines-smaller
 lines-smaller g c =
     let is = rw c.in-Ok-Some.field-0-is at c.in-Ok-Some.ensures.next in
     less-then _ _ _ c.in-Ok-Go.ensures.falls
-    (subst (λ (s : SessionState). weight s < weight c.lines.state) (sym is.1) (weight-taken c.lines.state c.next_waiting.new.state.frames (next-fewer c.lines.state c.in-Ok-Some.line c.next_waiting.new.state.frames is.0)))
+    (subst (λ (s : SessionState). weight s < weight c.lines.state) (sym is.1)
+    (weight-taken c.lines.state c.next_waiting.new.state.frames (next-fewer c.lines.state c.in-Ok-Some.line c.next_waiting.new.state.frames is.0)))
 
 pub lines-preserved : goal.lines-preserved
 lines-preserved g c =
     let is = rw c.in-Ok-Some.field-0-is at c.in-Ok-Some.ensures.next in
     let less : weight c.waiting_line.new.state < weight c.lines.state =
     less-then _ _ _ c.in-Ok-Go.ensures.falls
-    (subst (λ (s : SessionState). weight s < weight c.lines.state) (sym is.1) (weight-taken c.lines.state c.next_waiting.new.state.frames (next-fewer c.lines.state c.in-Ok-Some.line c.next_waiting.new.state.frames is.0))) in
+    (subst (λ (s : SessionState). weight s < weight c.lines.state) (sym is.1)
+    (weight-taken c.lines.state c.next_waiting.new.state.frames (next-fewer c.lines.state c.in-Ok-Some.line c.next_waiting.new.state.frames is.0))) in
     record {
       state = c.in-Ok-Go.ensures.state;
-      ran = Ran-then (waits-more c.args.state.now c.lines.state c.next_waiting.new.state c.waiting_line.new.state c.in-Ok-Some.line is.0 is.1) c.lines.invariant.ran (rw c.in-Ok-Go.field-0-is at c.in-Ok-Go.ensures.ran);
+      ran = Ran-then (waits-more c.args.state.now c.lines.state c.next_waiting.new.state c.waiting_line.new.state c.in-Ok-Some.line is.0 is.1)
+          c.lines.invariant.ran (rw c.in-Ok-Go.field-0-is at c.in-Ok-Go.ensures.ran);
       nothing = λ none. absurd (next-waits c.lines.state c.in-Ok-Some.line c.next_waiting.new.state.frames is.0 (ap (λ (s : SessionState). s.frames) (c.lines.invariant.nothing none) ∙ none));
       drafting = λ inside. absurd (none-next c.args.state.now c.lines.state c.in-Ok-Some.line c.next_waiting.new.state.frames (c.lines.invariant.drafting inside) inside is.0);
       light = at-most _ _ _ less c.lines.invariant.light;
@@ -99,7 +104,8 @@ returns-in-Ok-End-clause-falls g c = λ out inside.
     let is = rw c.in-Ok-Some.field-0-is at c.in-Ok-Some.ensures.next in
     let less : weight c.waiting_line.new.state < weight c.lines.state =
     less-then _ _ _ c.in-Ok-End.ensures.falls
-    (subst (λ (s : SessionState). weight s < weight c.lines.state) (sym is.1) (weight-taken c.lines.state c.next_waiting.new.state.frames (next-fewer c.lines.state c.in-Ok-Some.line c.next_waiting.new.state.frames is.0))) in
+    (subst (λ (s : SessionState). weight s < weight c.lines.state) (sym is.1)
+    (weight-taken c.lines.state c.next_waiting.new.state.frames (next-fewer c.lines.state c.in-Ok-Some.line c.next_waiting.new.state.frames is.0))) in
     below-most _ _ _ less c.lines.invariant.light
 
 pub returns-in-Ok-End-clause-goes_on : goal.returns-in-Ok-End-clause-goes_on

@@ -1,11 +1,7 @@
-use Rattle.std.proofs.Common.{refl}
 use Rattle.host_port.proofs.RanLemmas.{Ran-none}
 use Rattle.session_state.proofs.MemoryLemmas.{out-of-memory}
 use Rattle.mailx_session.specs.Startup.{startup_play}
 use Rattle.mailx_session.proofs.startup.load_file.Goals as goal
 
-pub load_placed-requires-clause-file : goal.load_placed-requires-clause-file
-load_placed-requires-clause-file g c = rw (c.bytes-2.ensures, c.in_ok-file.ensures) (rw c.bytes.ensures refl)
-
-pub returns-in_err-file-clause-ran : goal.returns-in_err-file-clause-ran
-returns-in_err-file-clause-ran g c = Ran-none (out-of-memory (startup_play c.args.state.now c.args.name.now) _ c.from_residual.result c.from_residual.ensures.1)
+pub returns-in_err-first-clause-ran : goal.returns-in_err-first-clause-ran
+returns-in_err-first-clause-ran g c = Ran-none (out-of-memory (startup_play c.args.state.now c.args.name.now) _ c.from_residual.result c.from_residual.ensures.1)

@@ -14,4 +14,5 @@ returns-in-Err-clause-ran g c = Ran-none (at-memory (greeted Greeting c.args.ses
 pub returns-in-Ok-say-clause-ran : goal.returns-in-Ok-say-clause-ran
 returns-in-Ok-say-clause-ran g c =
     let s = c.args.session.now in
-    Ran-map (λ es went. goes-as (Ask (Say (greeting s.desk)) Ret) (λ u. Ret (Go (Reading s no_input))) tt (Go (Reading s no_input)) es refl went) (rw (c.bytes.ensures, c.in-Ok.ensures) at c.in-Ok-say.ensures.ran)
+    Ran-map (λ es went. goes-as (Ask (Say (greeting s.desk)) Ret) (λ u. Ret (Go (Reading s no_input))) tt (Go (Reading s no_input)) es refl went)
+    (rw (c.bytes.ensures, c.in-Ok.ensures) at c.in-Ok-say.ensures.ran)

@@ -10,7 +10,9 @@ returns-in-Ok-clause-ran g c =
 
 pub returns-in-Err-Fault-clause-ran : goal.returns-in-Err-Fault-clause-ran
 returns-in-Err-Fault-clause-ran g c =
-    rw (with-word c.args.session.now c.args.options.now _ (rw (c.desk.ensures.desk, c.folder_word.ensures, c.in-Err-Fault.field-0-is) at c.in-Err-Fault.ensures)) (rw (c.bytes-in-Err-Fault.ensures, c.in-Err-Fault.field-0-is) at c.end_with.ensures.ran c.args.session.now)
+    rw (with-word c.args.session.now c.args.options.now _
+    (rw (c.desk.ensures.desk, c.folder_word.ensures, c.in-Err-Fault.field-0-is) at c.in-Err-Fault.ensures))
+    (rw (c.bytes-in-Err-Fault.ensures, c.in-Err-Fault.field-0-is) at c.end_with.ensures.ran c.args.session.now)
 
 pub returns-in-Err-Memory-clause-ran : goal.returns-in-Err-Memory-clause-ran
 returns-in-Err-Memory-clause-ran g c = Ran-none (at-memory (starting c.args.session.now c.args.options.now))

@@ -24,7 +24,8 @@ returns-in-Busy-clause-ran g c = λ env.
     let s : SessionState = first_of (record { pairs = []; folder = []; terminal = false; token = 0 }) None in
     let line = with_feed (c.in-Busy.name ++ codes ": busy") in
     rw c.in-Busy.is
-    (Ran-map (λ es goes. subst (λ (out : Result (Next RunState Status) Stop). Goes (ends_with o line status.Refused) es out) (said-next s no_input env (Opens o) c.end_at_file.result c.end_at_file.ensures.ends) goes)
+    (Ran-map (λ es goes. subst (λ (out : Result (Next RunState Status) Stop). Goes (ends_with o line status.Refused) es out)
+    (said-next s no_input env (Opens o) c.end_at_file.result c.end_at_file.ensures.ends) goes)
     (rw c.bytes.ensures at c.end_at_file.ensures.ran s))
 
 pub returns-in-Busy-clause-stops : goal.returns-in-Busy-clause-stops

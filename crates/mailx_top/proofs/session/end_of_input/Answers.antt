@@ -12,4 +12,5 @@ pub returns-in-Err-clause-ran : goal.returns-in-Err-clause-ran
 returns-in-Err-clause-ran g c = λ env j. rw c.stop_of.ensures (Ran-map (λ es ended. input-ends env j c.«end».ensures.idle ended) c.in-Err.ensures.ran)
 
 pub returns-in-Err-clause-cause : goal.returns-in-Err-clause-cause
-returns-in-Err-clause-cause g c = rw c.stop_of.ensures (caused-line Status (Option Status) (g.H.Host.world.counts c.args.host.now) (g.H.Host.world.counts c.«end».new.host) c.in-Err.error c.in-Err.ensures.cause)
+returns-in-Err-clause-cause g c = rw c.stop_of.ensures
+    (caused-line Status (Option Status) (g.H.Host.world.counts c.args.host.now) (g.H.Host.world.counts c.«end».new.host) c.in-Err.error c.in-Err.ensures.cause)

@@ -14,4 +14,5 @@ pub returns-in-Err-clause-ran : goal.returns-in-Err-clause-ran
 returns-in-Err-clause-ran g c = rw c.stop_of.ensures c.in-Err.ensures.ran
 
 pub returns-in-Err-clause-cause : goal.returns-in-Err-clause-cause
-returns-in-Err-clause-cause g c = rw c.stop_of.ensures (caused-line Flow (Option Status) (g.H.Host.world.counts c.args.host.now) (g.H.Host.world.counts c.step.new.host) c.in-Err.error c.in-Err.ensures.cause)
+returns-in-Err-clause-cause g c = rw c.stop_of.ensures
+    (caused-line Flow (Option Status) (g.H.Host.world.counts c.args.host.now) (g.H.Host.world.counts c.step.new.host) c.in-Err.error c.in-Err.ensures.cause)

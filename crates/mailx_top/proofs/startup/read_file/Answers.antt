@@ -11,4 +11,5 @@ returns-in-Err-clause-ran g c = λ env start names.
     rw c.stop_of.ensures (Ran-map (λ es goes. file-goes env start c.args.session.now c.args.name.now names c.startup.ensures.before goes) c.in-Err.ensures.ran)
 
 pub returns-in-Err-clause-cause : goal.returns-in-Err-clause-cause
-returns-in-Err-clause-cause g c = rw c.stop_of.ensures (caused-line (Unit {0}) (Unit {0}) (g.H.Host.world.counts c.args.host.now) (g.H.Host.world.counts c.startup.new.host) c.in-Err.error c.in-Err.ensures.cause)
+returns-in-Err-clause-cause g c = rw c.stop_of.ensures
+    (caused-line (Unit {0}) (Unit {0}) (g.H.Host.world.counts c.args.host.now) (g.H.Host.world.counts c.startup.new.host) c.in-Err.error c.in-Err.ensures.cause)

@@ -50,7 +50,8 @@ returns-in-Err-clause-run g c =
     let cause = c.in-Err.cause in
     let s = c.stop_status.result in
     subst (λ (a : Option Start). Ran g.H.Host.world c.args.host.now c.say_cut.new.host (IsRun a env s)) c.asked_by-asked.ensures
-    (Ran-then (λ front rest loop said. run-of (may_start c.asked_by-asked.result) env fits s (Err cause) front rest loop (c.stop_status.ensures, cut-said _ cause rest said) (cut-unless-idle _ _ cause front rest said))
+    (Ran-then (λ front rest loop said. run-of (may_start c.asked_by-asked.result) env fits s (Err cause) front rest loop
+    (c.stop_status.ensures, cut-said _ cause rest said) (cut-unless-idle _ _ cause front rest said))
     c.in-Err.ensures.ran c.say_cut.ensures)
 
 pub returns-in-Err-clause-complete : goal.returns-in-Err-clause-complete

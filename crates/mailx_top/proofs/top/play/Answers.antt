@@ -9,7 +9,8 @@ pub returns-in-Some-clause-ran : goal.returns-in-Some-clause-ran
 returns-in-Some-clause-ran g c = rw (sym c.in-Some.ensures.wanted) c.start_session.ensures.ran
 
 pub returns-in-None-clause-ran : goal.returns-in-None-clause-ran
-returns-in-None-clause-ran g c = rw (sym c.in-None.ensures.wanted) (Ran-map (λ es loop. again [] es refl (refl, inl refl) loop) (c.end_with_usage.ensures.ran c.args.env.now (first_of c.args.env.now None)))
+returns-in-None-clause-ran g c = rw (sym c.in-None.ensures.wanted)
+    (Ran-map (λ es loop. again [] es refl (refl, inl refl) loop) (c.end_with_usage.ensures.ran c.args.env.now (first_of c.args.env.now None)))
 
 pub returns-in-Some-clause-named : goal.returns-in-Some-clause-named
 returns-in-Some-clause-named g c = rw (sym c.in-Some.ensures.wanted) (c.start_session.ensures.plain, c.start_session.ensures.bad_name)

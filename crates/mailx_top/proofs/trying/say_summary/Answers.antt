@@ -10,5 +10,6 @@ returns-in-Ok-clause-tries g c = λ n sum.
 pub returns-in-Err-clause-tries : goal.returns-in-Err-clause-tries
 returns-in-Err-clause-tries g c = λ n sum.
     Ran-then (front-tries n c.args.text.now sum)
-    (called (front-printed c.args.text.now (record {})) (said-counted (Err (record {})) c.args.text.now _ _ c.in-Err.ensures.cause) c.in-Err.ensures.start c.in-Err.ensures.counts c.in-Err.ensures.call)
+    (called (front-printed c.args.text.now (record {}))
+    (said-counted (Err (record {})) c.args.text.now _ _ c.in-Err.ensures.cause) c.in-Err.ensures.start c.in-Err.ensures.counts c.in-Err.ensures.call)
     c.say_stop.ensures

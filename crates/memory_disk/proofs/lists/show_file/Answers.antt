@@ -4,7 +4,8 @@ use Rattle.memory_disk.proofs.lists.show_file.Goals as goal
 
 pub returns-clause-shows : goal.returns-clause-shows
 returns-clause-shows c = on-ok c.push.result
-    (λ put q. show-value c.args.shown.now c.push.new.self c.args.files.now _ c.in-Some.name.now _ q c.in-Some-get.bytes.now _ (sym c.in-Some.ensures) (sym c.in-Some-get.ensures) c.in_ok-copy.ensures (c.in_ok-bytes.ensures ∙ c.bytes.ensures) put)
+    (λ put q. show-value c.args.shown.now c.push.new.self c.args.files.now _ c.in-Some.name.now _ q c.in-Some-get.bytes.now _ (sym c.in-Some.ensures)
+    (sym c.in-Some-get.ensures) c.in_ok-copy.ensures (c.in_ok-bytes.ensures ∙ c.bytes.ensures) put)
     c.push.ensures.ok
 
 pub returns-clause-names : goal.returns-clause-names

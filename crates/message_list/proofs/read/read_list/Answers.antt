@@ -24,7 +24,8 @@ loop-word-preserved c =
       in_order = words_more c.args.words.now i word c.loop-word.items c.push.new.self _ (omega arith) c.word-item.is c.loop-word.invariant.in_order c.in_ok-push-in-Some.ensures.ok same;
       kinds = All-same good _ _ c.in_ok-push-in-Some.ensures.ok (All-push good c.loop-word.items _ c.loop-word.invariant.kinds (ap kind_of same ∙ kind));
       good = λ k d lt. elim (cases_eq k i) [
-        | inl e ↦ ap (λ n. is_none (kind_of (get_or c.args.words.now n d))) e ∙ ap (λ (w : List ℕ). is_none (kind_of w)) (sym (get_or_read c.args.words.now i word (omega arith) c.word-item.is d)) ∙ ap is_none kind
+        | inl e ↦ ap (λ n. is_none (kind_of (get_or c.args.words.now n d))) e
+            ∙ ap (λ (w : List ℕ). is_none (kind_of w)) (sym (get_or_read c.args.words.now i word (omega arith) c.word-item.is d)) ∙ ap is_none kind
         | inr ne ↦ c.loop-word.invariant.good k d (omega arith)
       ];
     }

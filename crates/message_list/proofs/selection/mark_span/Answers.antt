@@ -10,7 +10,8 @@ pub loop-place-init : goal.loop-place-init
 loop-place-init c = record {
   long = c.requires.long;
   marks = λ p lt. or_nothing (get_or c.args.marks.now p false)
-      ∙ ap (λ (t : Bool). get_or c.args.marks.now p false || t) (sym (and_left _ (is_hit c.args.shown.now (texts_of c.args.folder.now) c.args.purpose c.args.item.now (get_or c.args.shown.now.order p 0)) (nothing_between c.args.span.from p)));
+      ∙ ap (λ (t : Bool). get_or c.args.marks.now p false || t)
+      (sym (and_left _ (is_hit c.args.shown.now (texts_of c.args.folder.now) c.args.purpose c.args.item.now (get_or c.args.shown.now.order p 0)) (nothing_between c.args.span.from p)));
   some = λ e. absurd (cc);
   none = λ e p low high. absurd (omega arith);
 }
@@ -21,7 +22,8 @@ loop-place-preserved c =
     let place = c.loop-place.place in
     let from = c.args.span.from in
     let hit : Bool = c.in_ok-hit.hit in
-    let same : hit ≡ hits place = c.in_ok-hit.ensures ∙ ap (λ (o : List ℕ). is_hit c.args.shown.now (texts_of c.args.folder.now) c.args.purpose c.args.item.now (get_or o place 0)) c.items-order.ensures in
+    let same : hit ≡ hits place = c.in_ok-hit.ensures
+    ∙ ap (λ (o : List ℕ). is_hit c.args.shown.now (texts_of c.args.folder.now) c.args.purpose c.args.item.now (get_or o place 0)) c.items-order.ensures in
     let low : from ≤ place = c.loop-place.auto.place in
     let high : place < length c.args.shown.now.order = omega (arith, c.requires.span.within) in
     record {
@@ -45,4 +47,5 @@ returns-clause-marks c =
 
 pub returns-clause-found : goal.returns-clause-found
 returns-clause-found c =
-    finds_here c.args.shown.now (texts_of c.args.folder.now) c.args.purpose c.args.item.now c.args.span c.requires.span c.loop-place.place c.loop-place.found (omega (arith, c.requires.span.ordered)) c.loop-place.invariant.some c.loop-place.invariant.none
+    finds_here c.args.shown.now (texts_of c.args.folder.now) c.args.purpose c.args.item.now c.args.span c.requires.span c.loop-place.place
+    c.loop-place.found (omega (arith, c.requires.span.ordered)) c.loop-place.invariant.some c.loop-place.invariant.none

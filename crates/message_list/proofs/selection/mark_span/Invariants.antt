@@ -8,7 +8,8 @@ abbrev pub invariant-loop-place : goal.invariant-loop-place
 invariant-loop-place l = record {
   long : length l.marks ≡ length l.shown.order;
   marks : (p : ℕ) → p < length l.shown.order
-      → get_or l.marks p false ≡ (get_or l.initial.marks p false || ((nat_le l.fn.span.from p && nat_lt p l.place) && is_hit l.shown (texts_of l.folder) l.fn.purpose l.item (get_or l.shown.order p 0)));
+      → get_or l.marks p false ≡ (get_or l.initial.marks p false
+      || ((nat_le l.fn.span.from p && nat_lt p l.place) && is_hit l.shown (texts_of l.folder) l.fn.purpose l.item (get_or l.shown.order p 0)));
   some : l.found ≡ true → (p : ℕ) × (l.fn.span.from ≤ p) × (p < l.place) × (is_hit l.shown (texts_of l.folder) l.fn.purpose l.item (get_or l.shown.order p 0) ≡ true);
   none : l.found ≡ false → (p : ℕ) → l.fn.span.from ≤ p → p < l.place → is_hit l.shown (texts_of l.folder) l.fn.purpose l.item (get_or l.shown.order p 0) ≡ false;
 }

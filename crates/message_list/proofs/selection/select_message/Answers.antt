@@ -7,7 +7,8 @@ use Rattle.message_list.proofs.selection.select_message.Goals as goal
 
 pub returns-in_ok-single-in-Some-clause-ok : goal.returns-in_ok-single-in-Some-clause-ok
 returns-in_ok-single-in-Some-clause-ok c =
-    c.in_ok-single-in-Some.ensures ∙ ap (λ n. n ∷ []) c.in-Some.ensures.0 ∙ sym (union_one c.args.shown.now c.requires.valid (texts_of c.args.folder.now) c.args.purpose c.args.item.now c.args.k c.requires.alone c.in-Some.ensures.1)
+    c.in_ok-single-in-Some.ensures ∙ ap (λ n. n ∷ []) c.in-Some.ensures.0
+    ∙ sym (union_one c.args.shown.now c.requires.valid (texts_of c.args.folder.now) c.args.purpose c.args.item.now c.args.k c.requires.alone c.in-Some.ensures.1)
 
 pub returns-in_ok-single-in-Some-clause-met : goal.returns-in_ok-single-in-Some-clause-met
 returns-in_ok-single-in-Some-clause-met c =

@@ -33,11 +33,14 @@ loop-item-preserved c =
     record {
       long = ap (λ (m : List Bool). length m) back ∙ long ∙ c.loop-item.invariant.long;
       marks = λ p within. ap (λ (m : List Bool). get_or m p false) back ∙ added.marks p within
-          ∙ ap (λ (t : Bool). t || selects c.args.shown.now (texts_of c.args.folder.now) c.in_ok-landmarks.landmarks.purpose item (get_or c.args.shown.now.order p 0)) (ap (λ (m : List Bool). get_or m p false) c.deref_mut.ensures.value ∙ c.loop-item.invariant.marks p within)
-          ∙ ap (λ (u : Purpose). is_selected c.args.shown.now (texts_of c.args.folder.now) c.args.purpose (take i items) (get_or c.args.shown.now.order p 0) || selects c.args.shown.now (texts_of c.args.folder.now) u item (get_or c.args.shown.now.order p 0)) c.in_ok-landmarks.ensures.purpose
+          ∙ ap (λ (t : Bool). t || selects c.args.shown.now (texts_of c.args.folder.now) c.in_ok-landmarks.landmarks.purpose item
+          (get_or c.args.shown.now.order p 0)) (ap (λ (m : List Bool). get_or m p false) c.deref_mut.ensures.value ∙ c.loop-item.invariant.marks p within)
+          ∙ ap (λ (u : Purpose). is_selected c.args.shown.now (texts_of c.args.folder.now) c.args.purpose (take i items)
+          (get_or c.args.shown.now.order p 0) || selects c.args.shown.now (texts_of c.args.folder.now) u item (get_or c.args.shown.now.order p 0)) c.in_ok-landmarks.ensures.purpose
           ∙ sym (selected_more c.args.shown.now (texts_of c.args.folder.now) c.args.purpose items i item (get_or c.args.shown.now.order p 0) lt c.item-item.is);
       found = λ k d below. elim (cases_eq k i) [
-        | inl e ↦ ap (λ n. finds c.args.shown.now (texts_of c.args.folder.now) c.args.purpose (get_or items n d)) e ∙ ap (finds c.args.shown.now (texts_of c.args.folder.now) c.args.purpose) (sym (get_or_read items i item lt c.item-item.is d))
+        | inl e ↦ ap (λ n. finds c.args.shown.now (texts_of c.args.folder.now) c.args.purpose (get_or items n d)) e
+            ∙ ap (finds c.args.shown.now (texts_of c.args.folder.now) c.args.purpose) (sym (get_or_read items i item lt c.item-item.is d))
             ∙ ap (λ (u : Purpose). finds c.args.shown.now (texts_of c.args.folder.now) u item) (sym c.in_ok-landmarks.ensures.purpose) ∙ sym c.in_ok-found.ensures.found ∙ c.if-not-found.false
         | inr ne ↦ c.loop-item.invariant.found k d (omega arith)
       ];
@@ -45,8 +48,10 @@ loop-item-preserved c =
 
 pub returns-then-not-found-clause-err : goal.returns-then-not-found-clause-err
 returns-then-not-found-clause-err c =
-    missing c.args.shown.now (texts_of c.args.folder.now) c.args.purpose c.args.items.now c.loop-item.item-index c.item-item.result c.no_such.result (omega arith) c.item-item.is (λ k lt. c.loop-item.invariant.found k c.item-item.result lt)
-    (ap (λ (u : Purpose). finds c.args.shown.now (texts_of c.args.folder.now) u c.item-item.result) (sym c.in_ok-landmarks.ensures.purpose) ∙ sym c.in_ok-found.ensures.found ∙ c.if-not-found.true) c.no_such.ensures
+    missing c.args.shown.now (texts_of c.args.folder.now) c.args.purpose c.args.items.now c.loop-item.item-index c.item-item.result c.no_such.result
+    (omega arith) c.item-item.is (λ k lt. c.loop-item.invariant.found k c.item-item.result lt)
+    (ap (λ (u : Purpose). finds c.args.shown.now (texts_of c.args.folder.now) u c.item-item.result) (sym c.in_ok-landmarks.ensures.purpose)
+    ∙ sym c.in_ok-found.ensures.found ∙ c.if-not-found.true) c.no_such.ensures
 
 pub returns-clause-ok : goal.returns-clause-ok
 returns-clause-ok c =

@@ -16,8 +16,10 @@ returns-then-k-eq0-clause-place c =
 
 pub returns-clause-place : goal.returns-clause-place
 returns-clause-place c =
-    (table_at c.args.shown.now c.requires.valid c.args.places.now c.requires.places c.args.k (let some : c.args.k ≡ 0 → ⊥ = c.if-k-eq0.false in omega arith) (omega (arith, ap (λ (o : List ℕ). length o) c.items.ensures))).0
+    (table_at c.args.shown.now c.requires.valid c.args.places.now c.requires.places c.args.k
+    (let some : c.args.k ≡ 0 → ⊥ = c.if-k-eq0.false in omega arith) (omega (arith, ap (λ (o : List ℕ). length o) c.items.ensures))).0
 
 pub returns-clause-within : goal.returns-clause-within
 returns-clause-within c =
-    (table_at c.args.shown.now c.requires.valid c.args.places.now c.requires.places c.args.k (let some : c.args.k ≡ 0 → ⊥ = c.if-k-eq0.false in omega arith) (omega (arith, ap (λ (o : List ℕ). length o) c.items.ensures))).1
+    (table_at c.args.shown.now c.requires.valid c.args.places.now c.requires.places c.args.k
+    (let some : c.args.k ≡ 0 → ⊥ = c.if-k-eq0.false in omega arith) (omega (arith, ap (λ (o : List ℕ). length o) c.items.ensures))).1

@@ -5,7 +5,8 @@ use Rattle.message_state.specs.declared.row.Row.{Row}
 use Rattle.message_show.proofs.SummaryLemmas.{number-within, summary-at}
 use Rattle.message_show.proofs.summary.summary_at.Goals as goal
 
-row-is : (orders order : List ℕ) (seen rows : List Row) (place : ℕ) (row : Row) → row ≡ get_or seen (get_or orders place 0 - 1) row → orders ≡ order → seen ≡ rows → row ≡ get_or rows (get_or order place 0 - 1) row
+row-is : (orders order : List ℕ) (seen rows : List Row) (place : ℕ) (row : Row) → row ≡ get_or seen (get_or orders place 0 - 1) row → orders ≡ order
+    → seen ≡ rows → row ≡ get_or rows (get_or order place 0 - 1) row
 row-is orders order seen rows place row is same all =
     is
     ∙ ap (λ (xs : List Row). get_or xs (get_or orders place 0 - 1) row) all

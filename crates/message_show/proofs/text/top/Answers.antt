@@ -11,7 +11,8 @@ returns c =
     let none = take-ended c.loop-line.line-iterator.n c.loop-line.line-iterator.iter (λ more. (c.in-None.ensures.steps more).0) in
     let first = c.into_iter-line-iterator.result in
     let count : first.n ≡ c.args.count = cc (c.into_iter-line-iterator.ensures.into_iter_gives, c.take-line-items.ensures.count) in
-    let lines : first.iter ≡ lines_of (shown_text c.args.m.now c.args.sets.now Kept) = cc (c.into_iter-line-iterator.ensures.into_iter_gives, c.take-line-items.ensures.source, c.lines.ensures.lines, c.bytes.ensures, c.in_ok-shown.ensures) in
+    let lines : first.iter ≡ lines_of (shown_text c.args.m.now c.args.sets.now Kept) =
+    cc (c.into_iter-line-iterator.ensures.into_iter_gives, c.take-line-items.ensures.source, c.lines.ensures.lines, c.bytes.ensures, c.in_ok-shown.ensures) in
     sym (append-nil c.loop-line.top)
     ∙ ap (λ (ls : List (List ℕ)). c.loop-line.top ++ flat_map with_feed ls) (sym none)
     ∙ c.loop-line.invariant.2

@@ -11,7 +11,8 @@ loop-at-preserved c =
     let ids : List (List ℕ) = c.loop-at.ids in
     let tail : List ℕ = c.split_at.result.1.now in
     let after : List ℕ = c.cut_id.result.1.now in
-    let step = ids_of_step c.loop-at.rest.now tail (drop 1 tail) c.in-Some.at found.0.high (λ k l e. found.0.before k (omega arith) l (eq-eqb _ _ e)) (eqb-true _ _ found.1) c.split_at.ensures.back refl in
+    let step = ids_of_step c.loop-at.rest.now tail (drop 1 tail) c.in-Some.at found.0.high (λ k l e. found.0.before k (omega arith) l (eq-eqb _ _ e))
+    (eqb-true _ _ found.1) c.split_at.ensures.back refl in
     ap (λ (new : List (List ℕ)). new ++ ids_of after) c.in_ok-push_id.ensures
     ∙ append_assoc ids (id_first (option_copied c.cut_id.result.0) []) (ids_of after)
     ∙ ap (λ (id : Option (List ℕ)). ids ++ (id_first id [] ++ ids_of after)) c.cut_id.ensures.id

@@ -17,7 +17,8 @@ returns-then-unchanged-count c =
 pub returns : goal.returns
 returns c =
     c.in_ok-push.ensures.items
-    ∙ leaving-some c.args.folder.now c.args.vars.now c.args.mbox.now c.of-rules.result c.in_ok-unchanged.unchanged c.count.result c.in_ok-staying.field-0.staying c.in_ok-staying.field-0.boxed c.in_ok-changes.changes.items
+    ∙ leaving-some c.args.folder.now c.args.vars.now c.args.mbox.now c.of-rules.result c.in_ok-unchanged.unchanged c.count.result
+    c.in_ok-staying.field-0.staying c.in_ok-staying.field-0.boxed c.in_ok-changes.changes.items
     _ c.flag.result c.requires c.of-rules.ensures c.in_ok-unchanged.ensures c.count.ensures.count c.if-unchanged-count.false
     c.in_ok-staying.ensures.staying c.in_ok-staying.ensures.boxed
     c.in_ok-changes.ensures (c.in_ok-name.ensures ∙ c.bytes.ensures) c.flag.ensures

@@ -34,7 +34,8 @@ loop-ask-preserved g c =
           let parts = quiet-parts c.in-Some.ask c.next.new.self.rest.items (sym (ap (list_any brings) step) ∙ before.0) in (parts.1, c.do_ask-asked.ensures.quiet parts.0 ∙ before.1);
       little = λ little. (startup-parts c.in-Some.ask c.next.new.self.rest.items (sym (ap (list_all is_startup_ask) step) ∙ c.loop-ask.invariant.little little)).1;
       ran =
-          Ran-then (left-on c.args.state.now c.loop-ask.state c.do_ask-asked.new.state c.args.asks c.loop-ask.ask-iterator.rest.items c.next.new.self.rest.items c.in-Some.ask step) c.loop-ask.invariant.ran
+          Ran-then (left-on c.args.state.now c.loop-ask.state c.do_ask-asked.new.state c.args.asks c.loop-ask.ask-iterator.rest.items
+          c.next.new.self.rest.items c.in-Some.ask step) c.loop-ask.invariant.ran
           (rw on at c.do_ask-asked.ensures.ran);
     }
 
@@ -52,7 +53,8 @@ loop-ask-preserved-else-not-all_done-2 g c =
           let parts = quiet-parts c.in-Some.ask c.next.new.self.rest.items (sym (ap (list_any brings) step) ∙ before.0) in (parts.1, c.do_ask-asked.ensures.quiet parts.0 ∙ before.1);
       little = λ little. (startup-parts c.in-Some.ask c.next.new.self.rest.items (sym (ap (list_all is_startup_ask) step) ∙ c.loop-ask.invariant.little little)).1;
       ran =
-          Ran-then (left-on c.args.state.now c.loop-ask.state c.do_ask-asked.new.state c.args.asks c.loop-ask.ask-iterator.rest.items c.next.new.self.rest.items c.in-Some.ask step) c.loop-ask.invariant.ran
+          Ran-then (left-on c.args.state.now c.loop-ask.state c.do_ask-asked.new.state c.args.asks c.loop-ask.ask-iterator.rest.items
+          c.next.new.self.rest.items c.in-Some.ask step) c.loop-ask.invariant.ran
           (rw on at c.do_ask-asked.ensures.ran);
     }
 
@@ -60,7 +62,8 @@ pub returns-then-not-all_done-clause-ran : goal.returns-then-not-all_done-clause
 returns-then-not-all_done-clause-ran g c =
     let off : all_done c.do_ask-asked.result ≡ false = cc (c.all_done.ensures, c.if-not-all_done.true) in
     let step : c.loop-ask.ask-iterator.rest.items ≡ c.in-Some.ask ∷ c.next.new.self.rest.items = c.in-Some.ensures.steps.0 in
-    Ran-then (left-off c.args.state.now c.loop-ask.state c.do_ask-asked.new.state c.do_ask-asked.result c.args.asks c.loop-ask.ask-iterator.rest.items c.next.new.self.rest.items c.in-Some.ask step off)
+    Ran-then (left-off c.args.state.now c.loop-ask.state c.do_ask-asked.new.state c.do_ask-asked.result c.args.asks c.loop-ask.ask-iterator.rest.items
+    c.next.new.self.rest.items c.in-Some.ask step off)
     c.loop-ask.invariant.ran c.do_ask-asked.ensures.ran
 
 pub returns-then-not-all_done-clause-brings : goal.returns-then-not-all_done-clause-brings
@@ -83,7 +86,8 @@ returns-then-not-all_done-clause-goes_on g c = λ little.
 
 pub returns-then-not-all_done-clause-cause : goal.returns-then-not-all_done-clause-cause
 returns-then-not-all_done-clause-cause g c =
-    caused-later (g.H.Host.world.counts c.args.host.now) (g.H.Host.world.counts c.loop-ask.host) (g.H.Host.world.counts c.do_ask-asked.new.host) c.do_ask-asked.result c.loop-ask.invariant.ran.never_fall c.do_ask-asked.ensures.cause
+    caused-later (g.H.Host.world.counts c.args.host.now) (g.H.Host.world.counts c.loop-ask.host)
+    (g.H.Host.world.counts c.do_ask-asked.new.host) c.do_ask-asked.result c.loop-ask.invariant.ran.never_fall c.do_ask-asked.ensures.cause
 
 pub returns-clause-ran : goal.returns-clause-ran
 returns-clause-ran g c =

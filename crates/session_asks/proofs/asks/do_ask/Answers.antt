@@ -85,7 +85,8 @@ pub returns-in-Edit-clause-ran : goal.returns-in-Edit-clause-ran
 returns-in-Edit-clause-ran g c = rw (asked-as c.args.state.now c.args.ask _ c.in-Edit.is) (rw c.bytes-in-Edit.ensures at c.edit.ensures.ran)
 
 pub returns-in-Child-clause-ran : goal.returns-in-Child-clause-ran
-returns-in-Child-clause-ran g c = rw (asked-as c.args.state.now c.args.ask _ c.in-Child.is) (Ran-map (run-asked-as c.args.state.now _ _ _ _ _ c.bytes-in-Child.ensures c.bytes-in-Child-2.ensures) c.run_asked.ensures.ran)
+returns-in-Child-clause-ran g c = rw (asked-as c.args.state.now c.args.ask _ c.in-Child.is)
+    (Ran-map (run-asked-as c.args.state.now _ _ _ _ _ c.bytes-in-Child.ensures c.bytes-in-Child-2.ensures) c.run_asked.ensures.ran)
 
 pub returns-in-Exit-clause-ran : goal.returns-in-Exit-clause-ran
 returns-in-Exit-clause-ran g c = rw (asked-as c.args.state.now c.args.ask _ c.in-Exit.is) (rw c.status_of.ensures.status (Ran-none (refl, inl refl)))

@@ -11,4 +11,5 @@ bounds-items-n c = rw c.items.ensures (let message = c.requires in omega (arith,
 pub returns : goal.returns
 returns c =
     let message = c.requires in
-    slice_get_read c.args.desk.now.shown.rows (length c.args.desk.now.shown.rows) (c.args.n - 1) c.index-items-n.result refl (omega (arith, message.0, message.1)) (rw c.items.ensures at c.index-items-n.is)
+    slice_get_read c.args.desk.now.shown.rows (length c.args.desk.now.shown.rows) (c.args.n - 1) c.index-items-n.result refl
+    (omega (arith, message.0, message.1)) (rw c.items.ensures at c.index-items-n.is)

@@ -23,6 +23,7 @@ returns c =
       some = c.in_ok-size.ensures.some;
       folder = rw (marks, system) refl;
       shown = c.in_ok-shown.ensures.shown;
-      valid = subst (λ (s : Shown). IsDesk (with_folder desk (record { name = c.args.name; system = c.in_ok-system.system; folder = c.args.folder; marks = c.in_ok-marks.marks }) s)) (sym c.in_ok-shown.ensures.shown)
+      valid = subst (λ (s : Shown). IsDesk (with_folder desk
+          (record { name = c.args.name; system = c.in_ok-system.system; folder = c.args.folder; marks = c.in_ok-marks.marks }) s)) (sym c.in_ok-shown.ensures.shown)
           (subst (λ (ms : List Mark). IsDesk (with_folder desk (record { name = c.args.name; system = c.in_ok-system.system; folder = c.args.folder; marks = ms }) (plain rows))) (sym marks) plainly);
     }

@@ -20,11 +20,13 @@ loop-k-preserved c =
     let first = c.args.first in
     let is : IsRow c.message.result row = subst (λ (t : List ℕ). IsRow t row) c.text.ensures c.in_ok-row_of.ensures.row in
     let more : AreRows (drop first (take k texts) ++ c.message.result ∷ []) (rows ++ row ∷ []) = zip-push IsRow (drop first (take k texts)) rows c.message.result row c.loop-k.invariant.rows is in
-    let years : All (λ (row : Row). IfSome row.moment IsInYears) (rows ++ row ∷ []) = All-push (λ (row : Row). IfSome row.moment IsInYears) rows row c.loop-k.invariant.years c.in_ok-row_of.ensures.years in
+    let years : All (λ (row : Row). IfSome row.moment IsInYears) (rows ++ row ∷ []) =
+    All-push (λ (row : Row). IfSome row.moment IsInYears) rows row c.loop-k.invariant.years c.in_ok-row_of.ensures.years in
     let behind : first ≤ k = c.loop-k.invariant.behind in
     let long : length (take k texts) ≡ k = length-take-le k texts (let test = c.loop-k-test.true in let count = c.count-k-end.ensures.count in omega (arith, test, count)) in
     let within : first ≤ length (take k texts) = omega (arith, behind, long) in
-    let front : drop first (take k texts) ++ c.message.result ∷ [] ≡ drop first (take (k + 1) texts) = sym (ap (drop first) c.message.ensures.front ∙ drop-behind first (take k texts) (c.message.result ∷ []) within) in
+    let front : drop first (take k texts) ++ c.message.result ∷ [] ≡ drop first (take (k + 1) texts) =
+    sym (ap (drop first) c.message.ensures.front ∙ drop-behind first (take k texts) (c.message.result ∷ []) within) in
     record {
       rows = subst (λ (l : List Row). AreRows (drop first (take (k + 1) texts)) l) (sym c.in_ok-push.ensures.ok) (subst (λ (ts : List (List ℕ)). AreRows ts (rows ++ row ∷ [])) front more);
       years = subst (All (λ (row : Row). IfSome row.moment IsInYears)) (sym c.in_ok-push.ensures.ok) years;

@@ -28,7 +28,8 @@ returns-clause-shows c =
       view = view;
       are = rw c.items-shown.ensures at c.in_ok-more.ensures.rows;
       viewed = subst (λ (l : List Row). IsViewOf desk.view l view) (c.items-2.ensures ∙ whole) c.in_ok-order.ensures;
-      is = more-is desk more c.add.new.self c.push_marks.new.marks view c.current_among-desk.result marks whole (c.current_among-desk.ensures ∙ ap (current_among desk.shown.current) (c.items-3.ensures ∙ whole));
+      is = more-is desk more c.add.new.self c.push_marks.new.marks view c.current_among-desk.result marks whole
+          (c.current_among-desk.ensures ∙ ap (current_among desk.shown.current) (c.items-3.ensures ∙ whole));
     }
 
 pub returns-clause-longer : goal.returns-clause-longer
@@ -55,5 +56,6 @@ returns-clause-shown c =
     let longer : length desk.shown.rows ≤ length (desk.shown.rows ++ more) = omega (arith, all) in
     let years = All-append (λ (row : Row). IfSome row.moment IsInYears) desk.shown.rows more c.requires.shown.years c.in_ok-more.ensures.years in
     subst (λ (d : Desk). IsShown d.shown)
-    (sym (more-is desk more c.add.new.self (map (λ (row : Row). row.mark) (desk.shown.rows ++ more)) view c.current_among-desk.result (λ i. map (λ (row : Row). row.mark) (desk.shown.rows ++ more)) whole current))
+    (sym (more-is desk more c.add.new.self (map (λ (row : Row). row.mark) (desk.shown.rows ++ more)) view c.current_among-desk.result
+    (λ i. map (λ (row : Row). row.mark) (desk.shown.rows ++ more)) whole current))
     (shows-more desk more view c.requires.shown within years longer viewed)

@@ -29,7 +29,8 @@ pub returns-in-Ok-clause-valid : goal.returns-in-Ok-clause-valid
 returns-in-Ok-clause-valid c =
     let old = c.args.desk.now in
     let ok = c.in_ok-grow_bytes.ensures.ok in
-    let begins = subst (λ (d : Desk). texts_of d.folder.folder ≡ texts_of old.folder.folder ++ drop (length (texts_of old.folder.folder)) (texts_of d.folder.folder)) ok.2 c.in_ok-grow_bytes.ensures.more in
+    let begins = subst (λ (d : Desk). texts_of d.folder.folder
+    ≡ texts_of old.folder.folder ++ drop (length (texts_of old.folder.folder)) (texts_of d.folder.folder)) ok.2 c.in_ok-grow_bytes.ensures.more in
     renewed-desk old c.show_more.new.desk c.args.found
     (record { bytes = ok.0; grown = ok.1; shows = subst (λ (d : Desk). ShowsMore d c.show_more.new.desk) ok.2 c.in-Ok.ensures.shows })
     c.requires begins c.in-Ok.ensures.shown

@@ -19,4 +19,5 @@ returns-clause-ran g c =
     Ran-map (know-switched c.args.state.now c.args.name.now c.args.folder c.args.changes c.args.reply.now _ _ _ c.in_ok-opening.ensures.0 c.in_ok-opening.ensures.1) c.leave_for.ensures.ran
 
 pub returns-in_err-opening-clause-ran : goal.returns-in_err-opening-clause-ran
-returns-in_err-opening-clause-ran g c = Ran-none (out-of-memory (switched_to c.args.state.now c.args.name.now c.args.changes c.args.reply.now (Ok c.args.folder)) _ c.from_residual.result c.from_residual.ensures.1)
+returns-in_err-opening-clause-ran g c = Ran-none
+    (out-of-memory (switched_to c.args.state.now c.args.name.now c.args.changes c.args.reply.now (Ok c.args.folder)) _ c.from_residual.result c.from_residual.ensures.1)

@@ -9,5 +9,6 @@ returns-clause-ran g c = λ changes names placed.
 
 pub returns-clause-cause : goal.returns-clause-cause
 returns-clause-cause g c =
-    commit-caused c.args.state.now c.args.targets.now.names c.args.targets.now.changes (g.H.Host.world.counts c.args.host.now) (g.H.Host.world.counts c.change-answer.new.host) c.change-answer.result c.followed.result c.followed.ensures.follows
+    commit-caused c.args.state.now c.args.targets.now.names c.args.targets.now.changes (g.H.Host.world.counts c.args.host.now)
+    (g.H.Host.world.counts c.change-answer.new.host) c.change-answer.result c.followed.result c.followed.ensures.follows
     c.change-answer.ensures.cause

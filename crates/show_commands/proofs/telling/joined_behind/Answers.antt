@@ -8,4 +8,5 @@ returns c =
     let first = c.args.first.now in
     let rest = c.args.rest.now in
     c.in_ok-push.ensures.ok
-    ∙ ap (λ (l : List ℕ). l ++ 10 ∷ []) (c.in_ok-put_rest.ensures ∙ ap (λ (l : List ℕ). l ++ flat_map (λ word. 32 ∷ word) rest) (c.in_ok-out.ensures ∙ c.bytes.ensures) ∙ sym (joined-first 32 first rest))
+    ∙ ap (λ (l : List ℕ). l ++ 10 ∷ []) (c.in_ok-put_rest.ensures
+    ∙ ap (λ (l : List ℕ). l ++ flat_map (λ word. 32 ∷ word) rest) (c.in_ok-out.ensures ∙ c.bytes.ensures) ∙ sym (joined-first 32 first rest))

@@ -9,7 +9,8 @@ pub returns-in_err-has_locked-clause-keeps : goal.returns-in_err-has_locked-clau
 returns-in_err-has_locked-clause-keeps g c = c.has_locked.ensures.keeps
 
 pub returns-in_err-has_locked-clause-ended : goal.returns-in_err-has_locked-clause-ended
-returns-in_err-has_locked-clause-ended g c = let p = err_from_is_err_and c.from_residual.result c.from_residual.ensures.1 in rw (p.1, p.2) (stopped_at op.Discard c.args.number c.args.request.now _ (g.S.Spool.told c.has_locked.new.out) c.in_err-has_locked.ensures.stopped)
+returns-in_err-has_locked-clause-ended g c = let p = err_from_is_err_and c.from_residual.result c.from_residual.ensures.1 in
+    rw (p.1, p.2) (stopped_at op.Discard c.args.number c.args.request.now _ (g.S.Spool.told c.has_locked.new.out) c.in_err-has_locked.ensures.stopped)
 
 pub returns-then-not-branch-clause-keeps : goal.returns-then-not-branch-clause-keeps
 returns-then-not-branch-clause-keeps g c = c.has_locked.ensures.keeps
@@ -27,16 +28,19 @@ pub returns-in_err-clear-clause-keeps : goal.returns-in_err-clear-clause-keeps
 returns-in_err-clear-clause-keeps g c = λ s. c.clear.ensures.keeps (c.has_locked.ensures.keeps s)
 
 pub returns-in_err-clear-clause-ended : goal.returns-in_err-clear-clause-ended
-returns-in_err-clear-clause-ended g c = let p = err_from_is_err_and c.from_residual-in_err-clear.result c.from_residual-in_err-clear.ensures.1 in rw (p.1, p.2) (stopped_at op.Discard c.args.number c.args.request.now _ (g.S.Spool.told c.clear.new.out) c.in_err-clear.ensures.stopped)
+returns-in_err-clear-clause-ended g c = let p = err_from_is_err_and c.from_residual-in_err-clear.result c.from_residual-in_err-clear.ensures.1 in
+    rw (p.1, p.2) (stopped_at op.Discard c.args.number c.args.request.now _ (g.S.Spool.told c.clear.new.out) c.in_err-clear.ensures.stopped)
 
 pub returns-in_err-sync-clause-keeps : goal.returns-in_err-sync-clause-keeps
 returns-in_err-sync-clause-keeps g c = λ s. c.sync.ensures.keeps (c.clear.ensures.keeps (c.has_locked.ensures.keeps s))
 
 pub returns-in_err-sync-clause-ended : goal.returns-in_err-sync-clause-ended
-returns-in_err-sync-clause-ended g c = let p = err_from_is_err_and c.from_residual-in_err-sync.result c.from_residual-in_err-sync.ensures.1 in rw (p.1, p.2) (call_ends op.Discard c.args.number c.args.request.now (g.S.Spool.told c.clear.new.out) (g.S.Spool.told c.sync.new.out) _ _ c.in_err-sync.ensures.told refl)
+returns-in_err-sync-clause-ended g c = let p = err_from_is_err_and c.from_residual-in_err-sync.result c.from_residual-in_err-sync.ensures.1 in
+    rw (p.1, p.2) (call_ends op.Discard c.args.number c.args.request.now (g.S.Spool.told c.clear.new.out) (g.S.Spool.told c.sync.new.out) _ _ c.in_err-sync.ensures.told refl)
 
 pub returns-clause-keeps : goal.returns-clause-keeps
 returns-clause-keeps g c = λ s. c.sync.ensures.keeps (c.clear.ensures.keeps (c.has_locked.ensures.keeps s))
 
 pub returns-clause-ended : goal.returns-clause-ended
-returns-clause-ended g c = gone_sync c.args.request.now.staged (g.S.Spool.told c.clear.new.out) (g.S.Spool.told c.sync.new.out) c.in_ok-sync.ensures.told (rw c.bytes.ensures at c.in_ok-clear.ensures.gone)
+returns-clause-ended g c = gone_sync c.args.request.now.staged (g.S.Spool.told c.clear.new.out)
+    (g.S.Spool.told c.sync.new.out) c.in_ok-sync.ensures.told (rw c.bytes.ensures at c.in_ok-clear.ensures.gone)

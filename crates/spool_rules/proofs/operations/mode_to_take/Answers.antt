@@ -14,7 +14,8 @@ pub returns-in_err-look-clause-keeps : goal.returns-in_err-look-clause-keeps
 returns-in_err-look-clause-keeps g c = c.look.ensures.keeps
 
 pub returns-in_err-look-clause-stopped : goal.returns-in_err-look-clause-stopped
-returns-in_err-look-clause-stopped g c = let p = err_from_is_err_and c.from_residual.result c.from_residual.ensures.1 in rw (p.1, p.2) (failed c.args.number c.args.request.now (g.S.Spool.told c.args.out.now) (g.S.Spool.told c.look.new.out) _ _ c.in_err-look.ensures.told refl)
+returns-in_err-look-clause-stopped g c = let p = err_from_is_err_and c.from_residual.result c.from_residual.ensures.1 in
+    rw (p.1, p.2) (failed c.args.number c.args.request.now (g.S.Spool.told c.args.out.now) (g.S.Spool.told c.look.new.out) _ _ c.in_err-look.ensures.told refl)
 
 pub returns-in-Nothing-clause-keeps : goal.returns-in-Nothing-clause-keeps
 returns-in-Nothing-clause-keeps g c = c.look.ensures.keeps
@@ -29,16 +30,22 @@ pub returns-in_default-2-clause-keeps : goal.returns-in_default-2-clause-keeps
 returns-in_default-2-clause-keeps g c = c.look.ensures.keeps
 
 pub returns-in-Nothing-clause-mode : goal.returns-in-Nothing-clause-mode
-returns-in-Nothing-clause-mode g c = may_take_now c.args.number c.args.request.now (g.S.Spool.told c.args.out.now) (g.S.Spool.told c.look.new.out) Nothing 432 c.requires.gone c.requires.locked (rw (c.bytes.ensures, c.in-Nothing.is) at c.in_ok-look.ensures.told) refl refl
+returns-in-Nothing-clause-mode g c = may_take_now c.args.number c.args.request.now (g.S.Spool.told c.args.out.now)
+    (g.S.Spool.told c.look.new.out) Nothing 432 c.requires.gone c.requires.locked (rw (c.bytes.ensures, c.in-Nothing.is) at c.in_ok-look.ensures.told) refl refl
 
 pub returns-in-File-clause-mode : goal.returns-in-File-clause-mode
-returns-in-File-clause-mode g c = may_take_now c.args.number c.args.request.now (g.S.Spool.told c.args.out.now) (g.S.Spool.told c.look.new.out) (File c.in-File.found) c.in-File.found.mode c.requires.gone c.requires.locked (rw (c.bytes.ensures, c.in-File.is) at c.in_ok-look.ensures.told) (eq-eqb c.in-File.found.owner c.args.number c.if-found-number.true) refl
+returns-in-File-clause-mode g c = may_take_now c.args.number c.args.request.now (g.S.Spool.told c.args.out.now) (g.S.Spool.told c.look.new.out)
+    (File c.in-File.found) c.in-File.found.mode c.requires.gone c.requires.locked (rw (c.bytes.ensures, c.in-File.is) at c.in_ok-look.ensures.told)
+    (eq-eqb c.in-File.found.owner c.args.number c.if-found-number.true) refl
 
 pub returns-in_default-clause-stopped : goal.returns-in_default-clause-stopped
-returns-in_default-clause-stopped g c = saw_others c.args.number c.args.request.now (g.S.Spool.told c.args.out.now) (g.S.Spool.told c.look.new.out) _ (File c.in-File.found) (rw c.requires.stages (inr c.bytes.ensures)) (rw c.in-File.is at c.in_ok-look.ensures.told) (others_owner c.in-File.found c.args.number c.if-found-number.false)
+returns-in_default-clause-stopped g c = saw_others c.args.number c.args.request.now (g.S.Spool.told c.args.out.now) (g.S.Spool.told c.look.new.out) _
+    (File c.in-File.found) (rw c.requires.stages (inr c.bytes.ensures)) (rw c.in-File.is at c.in_ok-look.ensures.told) (others_owner c.in-File.found c.args.number c.if-found-number.false)
 
 pub returns-in_default-2-clause-stopped : goal.returns-in_default-2-clause-stopped
-returns-in_default-2-clause-stopped g c = saw_others c.args.number c.args.request.now (g.S.Spool.told c.args.out.now) (g.S.Spool.told c.look.new.out) _ Other (rw c.requires.stages (inr c.bytes.ensures)) (rw c.in_default.is at c.in_ok-look.ensures.told) refl
+returns-in_default-2-clause-stopped g c =
+    saw_others c.args.number c.args.request.now (g.S.Spool.told c.args.out.now) (g.S.Spool.told c.look.new.out) _ Other
+    (rw c.requires.stages (inr c.bytes.ensures)) (rw c.in_default.is at c.in_ok-look.ensures.told) refl
 
 pub returns-in_err-look-clause-input : goal.returns-in_err-look-clause-input
 returns-in_err-look-clause-input g c = input_more (g.S.Spool.told c.args.out.now) (g.S.Spool.told c.look.new.out) (Look _ c.look.result) tt c.look.ensures.told

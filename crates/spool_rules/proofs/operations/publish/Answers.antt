@@ -33,13 +33,15 @@ pub returns-in_err-rename-clause-keeps : goal.returns-in_err-rename-clause-keeps
 returns-in_err-rename-clause-keeps g c = λ s. c.rename.ensures.keeps (c.may_replace.ensures.keeps s)
 
 pub returns-in_err-rename-clause-ended : goal.returns-in_err-rename-clause-ended
-returns-in_err-rename-clause-ended g c = let p = err_from_is_err_and c.from_residual-in_err-rename.result c.from_residual-in_err-rename.ensures.1 in rw (p.1, p.2) (call_ends op.Publish c.args.number c.args.request.now (g.S.Spool.told c.may_replace.new.out) (g.S.Spool.told c.rename.new.out) _ _ c.in_err-rename.ensures.told refl)
+returns-in_err-rename-clause-ended g c = let p = err_from_is_err_and c.from_residual-in_err-rename.result c.from_residual-in_err-rename.ensures.1 in
+    rw (p.1, p.2) (call_ends op.Publish c.args.number c.args.request.now (g.S.Spool.told c.may_replace.new.out) (g.S.Spool.told c.rename.new.out) _ _ c.in_err-rename.ensures.told refl)
 
 pub returns-in_err-sync-clause-keeps : goal.returns-in_err-sync-clause-keeps
 returns-in_err-sync-clause-keeps g c = λ s. c.sync.ensures.keeps (c.rename.ensures.keeps (c.may_replace.ensures.keeps s))
 
 pub returns-in_err-sync-clause-ended : goal.returns-in_err-sync-clause-ended
-returns-in_err-sync-clause-ended g c = let p = err_from_is_err_and c.from_residual-in_err-sync.result c.from_residual-in_err-sync.ensures.1 in rw (p.1, p.2) (call_ends op.Publish c.args.number c.args.request.now (g.S.Spool.told c.rename.new.out) (g.S.Spool.told c.sync.new.out) _ _ c.in_err-sync.ensures.told refl)
+returns-in_err-sync-clause-ended g c = let p = err_from_is_err_and c.from_residual-in_err-sync.result c.from_residual-in_err-sync.ensures.1 in
+    rw (p.1, p.2) (call_ends op.Publish c.args.number c.args.request.now (g.S.Spool.told c.rename.new.out) (g.S.Spool.told c.sync.new.out) _ _ c.in_err-sync.ensures.told refl)
 
 pub returns-clause-keeps : goal.returns-clause-keeps
 returns-clause-keeps g c = λ s. c.sync.ensures.keeps (c.rename.ensures.keeps (c.may_replace.ensures.keeps s))

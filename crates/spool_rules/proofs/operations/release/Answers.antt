@@ -16,10 +16,12 @@ pub returns-then-branch-clause-keeps : goal.returns-then-branch-clause-keeps
 returns-then-branch-clause-keeps g c = λ s. c.remove.ensures.keeps (c.has_locked.ensures.keeps s)
 
 pub returns-then-branch-clause-done : goal.returns-then-branch-clause-done
-returns-then-branch-clause-done g c = removed_unlocks c.args.number c.args.request.now (g.S.Spool.told c.has_locked.new.out) (g.S.Spool.told c.remove.new.out) c.remove.result (rw c.bytes.ensures at c.remove.ensures.told)
+returns-then-branch-clause-done g c = removed_unlocks c.args.number c.args.request.now (g.S.Spool.told c.has_locked.new.out)
+    (g.S.Spool.told c.remove.new.out) c.remove.result (rw c.bytes.ensures at c.remove.ensures.told)
 
 pub returns-then-branch-clause-stopped : goal.returns-then-branch-clause-stopped
-returns-then-branch-clause-stopped g c = removed_stopped c.args.number c.args.request.now (g.S.Spool.told c.has_locked.new.out) (g.S.Spool.told c.remove.new.out) _ c.remove.result c.remove.ensures.told
+returns-then-branch-clause-stopped g c =
+    removed_stopped c.args.number c.args.request.now (g.S.Spool.told c.has_locked.new.out) (g.S.Spool.told c.remove.new.out) _ c.remove.result c.remove.ensures.told
 
 pub returns-else-branch-clause-keeps : goal.returns-else-branch-clause-keeps
 returns-else-branch-clause-keeps g c = c.has_locked.ensures.keeps

@@ -11,7 +11,8 @@ pub returns-in_err-has_locked-clause-keeps : goal.returns-in_err-has_locked-clau
 returns-in_err-has_locked-clause-keeps g c = c.has_locked.ensures.keeps
 
 pub returns-in_err-has_locked-clause-ended : goal.returns-in_err-has_locked-clause-ended
-returns-in_err-has_locked-clause-ended g c = let p = err_from_is_err_and c.from_residual.result c.from_residual.ensures.1 in rw (p.1, p.2) (stopped_at op.Stage c.args.number c.args.request.now _ (g.S.Spool.told c.has_locked.new.out) c.in_err-has_locked.ensures.stopped)
+returns-in_err-has_locked-clause-ended g c = let p = err_from_is_err_and c.from_residual.result c.from_residual.ensures.1 in
+    rw (p.1, p.2) (stopped_at op.Stage c.args.number c.args.request.now _ (g.S.Spool.told c.has_locked.new.out) c.in_err-has_locked.ensures.stopped)
 
 pub returns-then-not-branch-clause-keeps : goal.returns-then-not-branch-clause-keeps
 returns-then-not-branch-clause-keeps g c = c.has_locked.ensures.keeps
@@ -32,19 +33,23 @@ pub mode_to_take-requires-clause-gone : goal.mode_to_take-requires-clause-gone
 mode_to_take-requires-clause-gone g c = rw c.bytes.ensures at c.in_ok-clear.ensures.gone
 
 pub mode_to_take-requires-clause-locked : goal.mode_to_take-requires-clause-locked
-mode_to_take-requires-clause-locked g c = once_on (λ steps. LockedThen c.args.number c.args.request.now steps []) (g.S.Spool.told c.has_locked.new.out) (g.S.Spool.told c.clear.new.out) (c.in_ok-has_locked.ensures.locked c.if-not-branch.false) c.clear.ensures.onward
+mode_to_take-requires-clause-locked g c =
+    once_on (λ steps. LockedThen c.args.number c.args.request.now steps []) (g.S.Spool.told c.has_locked.new.out) (g.S.Spool.told c.clear.new.out)
+    (c.in_ok-has_locked.ensures.locked c.if-not-branch.false) c.clear.ensures.onward
 
 pub returns-in_err-clear-clause-keeps : goal.returns-in_err-clear-clause-keeps
 returns-in_err-clear-clause-keeps g c = λ s. c.clear.ensures.keeps (c.has_locked.ensures.keeps s)
 
 pub returns-in_err-clear-clause-ended : goal.returns-in_err-clear-clause-ended
-returns-in_err-clear-clause-ended g c = let p = err_from_is_err_and c.from_residual-in_err-clear.result c.from_residual-in_err-clear.ensures.1 in rw (p.1, p.2) (stopped_at op.Stage c.args.number c.args.request.now _ (g.S.Spool.told c.clear.new.out) c.in_err-clear.ensures.stopped)
+returns-in_err-clear-clause-ended g c = let p = err_from_is_err_and c.from_residual-in_err-clear.result c.from_residual-in_err-clear.ensures.1 in
+    rw (p.1, p.2) (stopped_at op.Stage c.args.number c.args.request.now _ (g.S.Spool.told c.clear.new.out) c.in_err-clear.ensures.stopped)
 
 pub returns-in_err-mode-clause-keeps : goal.returns-in_err-mode-clause-keeps
 returns-in_err-mode-clause-keeps g c = λ s. c.mode_to_take.ensures.keeps (c.clear.ensures.keeps (c.has_locked.ensures.keeps s))
 
 pub returns-in_err-mode-clause-ended : goal.returns-in_err-mode-clause-ended
-returns-in_err-mode-clause-ended g c = let p = err_from_is_err_and c.from_residual-in_err-mode.result c.from_residual-in_err-mode.ensures.1 in rw (p.1, p.2) (stopped_at op.Stage c.args.number c.args.request.now _ (g.S.Spool.told c.mode_to_take.new.out) c.in_err-mode.ensures.stopped)
+returns-in_err-mode-clause-ended g c = let p = err_from_is_err_and c.from_residual-in_err-mode.result c.from_residual-in_err-mode.ensures.1 in
+    rw (p.1, p.2) (stopped_at op.Stage c.args.number c.args.request.now _ (g.S.Spool.told c.mode_to_take.new.out) c.in_err-mode.ensures.stopped)
 
 pub take-requires-clause-stages : goal.take-requires-clause-stages
 take-requires-clause-stages g c = c.requires.stages
@@ -59,16 +64,19 @@ pub returns-in_err-take-clause-keeps : goal.returns-in_err-take-clause-keeps
 returns-in_err-take-clause-keeps g c = λ s. c.take.ensures.keeps (c.mode_to_take.ensures.keeps (c.clear.ensures.keeps (c.has_locked.ensures.keeps s)))
 
 pub returns-in_err-take-clause-ended : goal.returns-in_err-take-clause-ended
-returns-in_err-take-clause-ended g c = let p = err_from_is_err_and c.from_residual-in_err-take.result c.from_residual-in_err-take.ensures.1 in rw (p.1, p.2) (call_ends op.Stage c.args.number c.args.request.now (g.S.Spool.told c.mode_to_take.new.out) (g.S.Spool.told c.take.new.out) _ _ c.in_err-take.ensures.told refl)
+returns-in_err-take-clause-ended g c = let p = err_from_is_err_and c.from_residual-in_err-take.result c.from_residual-in_err-take.ensures.1 in
+    rw (p.1, p.2) (call_ends op.Stage c.args.number c.args.request.now (g.S.Spool.told c.mode_to_take.new.out) (g.S.Spool.told c.take.new.out) _ _ c.in_err-take.ensures.told refl)
 
 pub returns-in_err-sync-clause-keeps : goal.returns-in_err-sync-clause-keeps
 returns-in_err-sync-clause-keeps g c = λ s. c.sync.ensures.keeps (c.take.ensures.keeps (c.mode_to_take.ensures.keeps (c.clear.ensures.keeps (c.has_locked.ensures.keeps s))))
 
 pub returns-in_err-sync-clause-ended : goal.returns-in_err-sync-clause-ended
-returns-in_err-sync-clause-ended g c = let p = err_from_is_err_and c.from_residual-in_err-sync.result c.from_residual-in_err-sync.ensures.1 in rw (p.1, p.2) (call_ends op.Stage c.args.number c.args.request.now (g.S.Spool.told c.take.new.out) (g.S.Spool.told c.sync.new.out) _ _ c.in_err-sync.ensures.told refl)
+returns-in_err-sync-clause-ended g c = let p = err_from_is_err_and c.from_residual-in_err-sync.result c.from_residual-in_err-sync.ensures.1 in
+    rw (p.1, p.2) (call_ends op.Stage c.args.number c.args.request.now (g.S.Spool.told c.take.new.out) (g.S.Spool.told c.sync.new.out) _ _ c.in_err-sync.ensures.told refl)
 
 pub returns-clause-keeps : goal.returns-clause-keeps
 returns-clause-keeps g c = λ s. c.sync.ensures.keeps (c.take.ensures.keeps (c.mode_to_take.ensures.keeps (c.clear.ensures.keeps (c.has_locked.ensures.keeps s))))
 
 pub returns-clause-ended : goal.returns-clause-ended
-returns-clause-ended g c = stage_done c.args.request.now _ (g.S.Spool.told c.mode_to_take.new.out) (g.S.Spool.told c.take.new.out) (g.S.Spool.told c.sync.new.out) c.in_ok-take.ensures.told c.in_ok-sync.ensures.told
+returns-clause-ended g c = stage_done c.args.request.now _ (g.S.Spool.told c.mode_to_take.new.out) (g.S.Spool.told c.take.new.out)
+    (g.S.Spool.told c.sync.new.out) c.in_ok-take.ensures.told c.in_ok-sync.ensures.told

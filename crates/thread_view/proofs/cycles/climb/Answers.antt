@@ -29,8 +29,10 @@ loop-x-smaller c =
     let trail = c.loop-x.trail.items in
     let inv = c.loop-x.invariant in
     let not_done : is_done c.args.done.now x ≡ false = c.loop-x-test.true in
-    let off = away c.loop-x.places.items trail c.deref.result.now c.deref-in-loop-x.result.now x c.is_on.result c.deref.ensures.value c.deref-in-loop-x.ensures.value inv.noted c.if-is_on.false c.is_on.ensures.no in
-    let longer = trail-short c.args.parents.now c.args.done.now (trail ++ x ∷ []) (trail-more trail x c.args.parents.now c.args.done.now c.args.k inv.trail inv.leads (some c.args.done.now x c.requires.none not_done) inv.within not_done off) in
+    let off = away c.loop-x.places.items trail c.deref.result.now c.deref-in-loop-x.result.now x c.is_on.result c.deref.ensures.value
+    c.deref-in-loop-x.ensures.value inv.noted c.if-is_on.false c.is_on.ensures.no in
+    let longer = trail-short c.args.parents.now c.args.done.now (trail ++ x ∷ [])
+    (trail-more trail x c.args.parents.now c.args.done.now c.args.k inv.trail inv.leads (some c.args.done.now x c.requires.none not_done) inv.within not_done off) in
     let long = length-append trail (x ∷ []) in
     let pushed = ap length c.in_ok-push.ensures.items in
     omega arith
@@ -43,7 +45,8 @@ loop-x-preserved c =
     let parents = c.args.parents.now in
     let k = c.args.k in
     let not_done : is_done c.args.done.now x ≡ false = c.loop-x-test.true in
-    let off = away c.loop-x.places.items trail c.deref.result.now c.deref-in-loop-x.result.now x c.is_on.result c.deref.ensures.value c.deref-in-loop-x.ensures.value inv.noted c.if-is_on.false c.is_on.ensures.no in
+    let off = away c.loop-x.places.items trail c.deref.result.now c.deref-in-loop-x.result.now x c.is_on.result c.deref.ensures.value
+    c.deref-in-loop-x.ensures.value inv.noted c.if-is_on.false c.is_on.ensures.no in
     let low = some c.args.done.now x c.requires.none not_done in
     let now : c.push.new.self.items ≡ trail ++ x ∷ [] = c.in_ok-push.ensures.items in
     let count : c.len.result ≡ length trail = omega (arith, c.loop-x.trail.ok.0) in

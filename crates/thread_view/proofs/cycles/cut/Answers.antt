@@ -28,7 +28,9 @@ returns-clause-cut c =
     let parents = c.args.parents.now.items in
     let trail = c.args.trail.now.items in
     let least = c.least_from-least.result in
-    let f : Found trail c.args.start least c.index-message.result.now = found trail c.deref.result.now c.args.start least c.index-message.result.now c.deref.ensures.value c.least_from-least.ensures.within c.least_from-least.ensures.least (λ high. get_or_read trail least c.index-message.result.now high c.index-message.ensures 0) in
+    let f : Found trail c.args.start least c.index-message.result.now =
+    found trail c.deref.result.now c.args.start least c.index-message.result.now c.deref.ensures.value c.least_from-least.ensures.within
+    c.least_from-least.ensures.least (λ high. get_or_read trail least c.index-message.result.now high c.index-message.ensures 0) in
     subst (λ (m : ℕ). AreCut parents (slice_set parents m 0)) (sym f.read)
     (cut-least parents c.args.done.now trail c.args.start least c.args.k c.requires.trail f.low f.high c.requires.cycle f.below)
 
@@ -37,7 +39,9 @@ returns-clause-trail c =
     let parents = c.args.parents.now.items in
     let trail = c.args.trail.now.items in
     let least = c.least_from-least.result in
-    let f : Found trail c.args.start least c.index-message.result.now = found trail c.deref.result.now c.args.start least c.index-message.result.now c.deref.ensures.value c.least_from-least.ensures.within c.least_from-least.ensures.least (λ high. get_or_read trail least c.index-message.result.now high c.index-message.ensures 0) in
+    let f : Found trail c.args.start least c.index-message.result.now =
+    found trail c.deref.result.now c.args.start least c.index-message.result.now c.deref.ensures.value c.least_from-least.ensures.within
+    c.least_from-least.ensures.least (λ high. get_or_read trail least c.index-message.result.now high c.index-message.ensures 0) in
     subst (λ (m : ℕ). IsTrail (slice_set parents m 0) c.args.done.now c.truncate.new.self.items) (sym f.read)
     (subst (IsTrail (slice_set parents (slice_index trail least) 0) c.args.done.now) (sym c.truncate.ensures.items)
     (trail-cut parents c.args.done.now trail c.args.start least c.args.k c.requires.trail f.low f.high c.requires.cycle f.below))

@@ -17,7 +17,9 @@ loop-k-preserved c =
     let k = c.loop-k.k in
     record {
       within = omega (arith, c.loop-k.invariant.within);
-      names = λ id. names-step rows k c.index-rows-k.result c.own_id.result c.loop-k.ids c.insert.new.self id (omega (arith, c.loop-k-test.true)) c.loop-k.invariant.within c.index-rows-k.is (c.own_id.ensures ∙ ap (λ (r : Row). r.texts.own_id) (sym c.index-rows-k.is)) c.in_ok-insert.ensures.updates (c.loop-k.invariant.names id);
+      names = λ id. names-step rows k c.index-rows-k.result c.own_id.result c.loop-k.ids c.insert.new.self id
+          (omega (arith, c.loop-k-test.true)) c.loop-k.invariant.within c.index-rows-k.is
+          (c.own_id.ensures ∙ ap (λ (r : Row). r.texts.own_id) (sym c.index-rows-k.is)) c.in_ok-insert.ensures.updates (c.loop-k.invariant.names id);
     }
 
 pub returns : goal.returns

@@ -19,7 +19,8 @@ loop-p-preserved c =
     let lower = c.in_ok-lower.lower in
     let pushed = c.push_reserved.ensures in
     record {
-      pairs = keyed-step (lower_of (text_of c.args.key)) c.args.rows.now c.loop-p.p c.index-rows-p.result lower.items (map seen old) (map seen c.push_reserved.new.self.items) c.loop-p-test.true c.index-rows-p.is
+      pairs = keyed-step (lower_of (text_of c.args.key)) c.args.rows.now c.loop-p.p c.index-rows-p.result lower.items (map seen old)
+          (map seen c.push_reserved.new.self.items) c.loop-p-test.true c.index-rows-p.is
           (c.in_ok-lower.ensures.ok ∙ ap str_to_ascii_lowercase c.text_of.ensures)
           inv.pairs
           (ap (map seen) pushed.items ∙ map-append seen old ((lower, c.loop-p.p + 1) ∷ []));

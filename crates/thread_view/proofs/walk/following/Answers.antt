@@ -35,7 +35,9 @@ pub loop-x-init : goal.loop-x-init
 loop-x-init c =
     let kin = c.args.kin.now in
     let parents = c.args.parents.now in
-    let none : IsNextUnder parents c.args.k 0 0 = subst (IsNextUnder parents c.args.k 0) c.if-child-ne0.false (first-read parents kin.first.items kin.next.items c.args.k c.index-child.result.now c.requires.kin c.requires.message.1 c.index-child.ensures) in
+    let none : IsNextUnder parents c.args.k 0 0 =
+    subst (IsNextUnder parents c.args.k 0) c.if-child-ne0.false
+    (first-read parents kin.first.items kin.next.items c.args.k c.index-child.result.now c.requires.kin c.requires.message.1 c.index-child.ensures) in
     record {
       within = c.requires.message.1;
       level = c.requires.level;
@@ -52,7 +54,8 @@ loop-x-preserved c =
     let inv = c.loop-x.invariant in
     let some : x ≢ 0 = c.loop-x-test.true in
     let is : IsIn parents x = (omega arith, inv.within) in
-    let none : IsNextUnder parents (slice_index parents x) x 0 = subst (IsNextUnder parents (slice_index parents x) x) c.if-index-eq0.true (next-read parents kin.first.items kin.next.items x c.index.result.now c.requires.kin is c.index.ensures) in
+    let none : IsNextUnder parents (slice_index parents x) x 0 =
+    subst (IsNextUnder parents (slice_index parents x) x) c.if-index-eq0.true (next-read parents kin.first.items kin.next.items x c.index.result.now c.requires.kin is c.index.ensures) in
     record {
       within = c.requires.array.within x inv.within;
       level = λ path paths. let l = inv.level path paths in let up = long parents c.requires.array path paths x is in omega arith;

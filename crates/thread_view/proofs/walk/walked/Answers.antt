@@ -59,16 +59,19 @@ loop-k-preserved c =
     let now : c.push.new.self.items ≡ order ++ k ∷ [] = c.in_ok-push.ensures.items in
     let next = c.following-next.ensures.next in
     let high : s < length parents = following-in parents c.requires.forest.0 k s c.requires.few.0 (next c.requires.forest.0 c.requires.forest.1) in
-    let listed : (path : ℕ → List ℕ) → ArePathsIn parents path → IsListed parents path (order ++ k ∷ []) s = λ path paths. listed-more parents array path paths order k is (inv.listed path paths) s (next path paths) in
+    let listed : (path : ℕ → List ℕ) → ArePathsIn parents path → IsListed parents path (order ++ k ∷ []) s =
+    λ path paths. listed-more parents array path paths order k is (inv.listed path paths) s (next path paths) in
     let long_now = ap length now ∙ length-append order (k ∷ []) in
     record {
       within = high;
       level = c.following-next.ensures.level;
       some = λ there. level-some parents array c.requires.forest s c.following-next.result.1 there high (c.following-next.ensures.level there);
       low = omega (arith, c.following-next.ensures.low, inv.low);
-      short = λ there. let l = listed-short parents array c.requires.forest.0 c.requires.forest.1 (order ++ k ∷ []) s (omega arith, high) (listed c.requires.forest.0 c.requires.forest.1) in omega (arith, length-append order (k ∷ []));
+      short = λ there. let l = listed-short parents array c.requires.forest.0 c.requires.forest.1 (order ++ k ∷ []) s (omega arith, high)
+          (listed c.requires.forest.0 c.requires.forest.1) in omega (arith, length-append order (k ∷ []));
       listed = λ path paths. subst (λ (o : List ℕ). IsListed parents path o s) (sym now) (listed path paths);
-      depths = λ path paths. more-depths path order k c.loop-k.level c.loop-k.depth.items c.push-in-loop-k.new.self.items c.push.new.self.items (inv.depths path paths) (inv.level some path paths) c.in_ok-push-2.ensures.items now;
+      depths = λ path paths. more-depths path order k c.loop-k.level c.loop-k.depth.items c.push-in-loop-k.new.self.items c.push.new.self.items
+          (inv.depths path paths) (inv.level some path paths) c.in_ok-push-2.ensures.items now;
     }
 
 pub returns : goal.returns

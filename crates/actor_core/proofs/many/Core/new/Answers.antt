@@ -1,4 +1,4 @@
-use Rattle.std.proofs.Common.{◌≡◌, Some, None, subst}
+use Rattle.std.proofs.Common.{subst}
 use Rattle.host_port.specs.Disk.{SameDisk}
 use Rattle.memory_disk.specs.Lists.{named, disk_of}
 use Rattle.memory_disk.specs.Standings.{disk_now}

@@ -6,7 +6,8 @@ use Rattle.compose_tilde.proofs.compose.Compose.answer.Goals as goal
 pub invariant_of-self : goal.invariant_of-self
 invariant_of-self c =
     let m = c.self.inside.machine in
-    kept-flat c.answer_step.result (idle m) c.answer_step.new.machine (answer_step m c.args.answer) c.self.invariant (answers-flat m c.args.answer c.self.invariant) c.answer_step.ensures.means c.answer_step.ensures.stays
+    kept-flat c.answer_step.result (idle m) c.answer_step.new.machine (answer_step m c.args.answer) c.self.invariant
+    (answers-flat m c.args.answer c.self.invariant) c.answer_step.ensures.means c.answer_step.ensures.stays
 
 pub returns-clause-idle : goal.returns-clause-idle
 returns-clause-idle c =

@@ -10,7 +10,8 @@ pub invariant_of-self : goal.invariant_of-self
 invariant_of-self c =
     let m = c.self.inside.machine in
     let step = line_step m c.args.line.now (view_of c.args.view.now) in
-    kept-flat c.line_step.result m c.line_step.new.machine step c.self.invariant (lines-flat m c.args.line.now (view_of c.args.view.now) c.self.invariant) c.line_step.ensures.means c.line_step.ensures.stays
+    kept-flat c.line_step.result m c.line_step.new.machine step c.self.invariant
+    (lines-flat m c.args.line.now (view_of c.args.view.now) c.self.invariant) c.line_step.ensures.means c.line_step.ensures.stays
 
 pub returns-clause-waits : goal.returns-clause-waits
 returns-clause-waits c =

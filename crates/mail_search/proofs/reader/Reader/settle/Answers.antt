@@ -7,11 +7,13 @@ use Rattle.mail_search.proofs.reader.Reader.settle.Goals as goal
 
 pub loop-frame-preserved-in-Continue-1 : goal.loop-frame-preserved-in-Continue-1
 loop-frame-preserved-in-Continue-1 c =
-    settle-negation c.loop-frame.self.frames c.pop.new.self c.in-Some.frame c.loop-frame.self.steps c.push.new.self c.in-Some.ensures c.in-Negation.is c.in_ok-push-in-Negation.ensures.ok ∙ c.loop-frame.invariant
+    settle-negation c.loop-frame.self.frames c.pop.new.self c.in-Some.frame c.loop-frame.self.steps c.push.new.self c.in-Some.ensures c.in-Negation.is
+    c.in_ok-push-in-Negation.ensures.ok ∙ c.loop-frame.invariant
 
 pub loop-frame-preserved : goal.loop-frame-preserved
 loop-frame-preserved c =
-    settle-second c.loop-frame.self.frames c.pop.new.self c.in-Some.frame c.loop-frame.self.steps c.push-in-Second.new.self c.in-Some.ensures c.in-Second.is c.in_ok-push-in-Second.ensures.ok ∙ c.loop-frame.invariant
+    settle-second c.loop-frame.self.frames c.pop.new.self c.in-Some.frame c.loop-frame.self.steps c.push-in-Second.new.self c.in-Some.ensures
+    c.in-Second.is c.in_ok-push-in-Second.ensures.ok ∙ c.loop-frame.invariant
 
 pub returns-in-First : goal.returns-in-First
 returns-in-First c =
@@ -26,7 +28,8 @@ returns-in-Group c =
 pub returns-in-More : goal.returns-in-More
 returns-in-More c =
     subst (λ (r : Reading). OnOk c.go_on-in-More.result (reading_of c.go_on-in-More.new.self ≡ r))
-    (settle-more c.loop-frame.self.frames c.pop.new.self c.in-Some.frame c.loop-frame.self.steps c.push-in-More.new.self c.in-Some.ensures c.in-More.is c.in_ok-push-in-More.ensures.ok ∙ c.loop-frame.invariant) c.go_on-in-More.ensures
+    (settle-more c.loop-frame.self.frames c.pop.new.self c.in-Some.frame c.loop-frame.self.steps c.push-in-More.new.self c.in-Some.ensures
+    c.in-More.is c.in_ok-push-in-More.ensures.ok ∙ c.loop-frame.invariant) c.go_on-in-More.ensures
 
 pub returns : goal.returns
 returns c =

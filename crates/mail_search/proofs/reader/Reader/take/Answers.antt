@@ -8,7 +8,8 @@ use Rattle.mail_search.proofs.reader.Reader.take.Goals as goal
 
 pub returns-in-Key-clause-ok : goal.returns-in-Key-clause-ok
 returns-in-Key-clause-ok c =
-    subst (λ (r : Option Reading). OnOk c.take_key.result (Some (reading_of c.take_key.new.self) ≡ r)) (take-key (reading_of c.args.self.now) (token_of c.args.token) c.in-Key.ensures.value) c.take_key.ensures.ok
+    subst (λ (r : Option Reading). OnOk c.take_key.result (Some (reading_of c.take_key.new.self) ≡ r))
+    (take-key (reading_of c.args.self.now) (token_of c.args.token) c.in-Key.ensures.value) c.take_key.ensures.ok
 
 pub returns-in-Key-clause-err : goal.returns-in-Key-clause-err
 returns-in-Key-clause-err c =

@@ -8,5 +8,9 @@ use Rattle.mailx_session.proofs.session.Session.open.Goals as goal
 pub returns-clause-ok : goal.returns-clause-ok
 returns-clause-ok c =
     let is = c.in_ok-opening.ensures in
-    let put = c.put_folder.ensures.put ∙ laid-is c.self.inside.state c.args.name c.args.folder _ is in
-    (is.rows, is.are, subst (λ (s : SessionState). with_desk c.self.inside.state c.put_folder.new.desk ≡ with_opened s c.args.name c.args.folder is.rows) c.self.view_is (ap (with_desk c.self.inside.state) put))
+    let put = c.put_folder.ensures.put ∙ laid-is c.self.inside.state c.args.name c.args.folder _ is in (
+      is.rows,
+      is.are,
+      subst (λ (s : SessionState). with_desk c.self.inside.state c.put_folder.new.desk
+          ≡ with_opened s c.args.name c.args.folder is.rows) c.self.view_is (ap (with_desk c.self.inside.state) put),
+    )

@@ -10,4 +10,5 @@ returns-clause-front c =
     let b = c.args.self.now in
     let spans = c.self.inside.spans.items in
     let scanned : IsScanned b spans = subst (λ (l : List ℕ). IsScanned l spans) c.self.view_is c.self.invariant in
-    take-slice_get (texts_of b) c.args.k _ (text-read b c.bytes-bytes.result.now spans c.args.k c.index-span.result.now scanned (c.bytes-bytes.ensures ∙ c.self.view_is) c.requires c.index-span.ensures)
+    take-slice_get (texts_of b) c.args.k _ (text-read b c.bytes-bytes.result.now spans c.args.k c.index-span.result.now scanned
+    (c.bytes-bytes.ensures ∙ c.self.view_is) c.requires c.index-span.ensures)

@@ -10,7 +10,8 @@ take_in-requires g c = still_open c.args.self.now c.requires
 
 pub returns-in-Ok-clause-ran : goal.returns-in-Ok-clause-ran
 returns-in-Ok-clause-ran g c =
-    called (filled _ c.args.self.now c.take_in.new.self c.in-Ok.n c.fill.new.buf _ c.requires (search rules) (search rules) (search rules) c.take_in.ensures) (filled-counted (Ok c.in-Ok.n) c.fill.new.buf _ _ tt) c.fill.ensures.start c.fill.ensures.counts c.in-Ok.ensures.call
+    called (filled _ c.args.self.now c.take_in.new.self c.in-Ok.n c.fill.new.buf _ c.requires (search rules) (search rules)
+    (search rules) c.take_in.ensures) (filled-counted (Ok c.in-Ok.n) c.fill.new.buf _ _ tt) c.fill.ensures.start c.fill.ensures.counts c.in-Ok.ensures.call
 
 pub returns-in-Ok-clause-cause : goal.returns-in-Ok-clause-cause
 returns-in-Ok-clause-cause g c = in-cause (g.H.Host.world.counts c.args.host.now) (g.H.Host.world.counts c.fill.new.self) _ c.args.self.now c.take_in.new.self _ c.take_in.ensures
@@ -31,4 +32,5 @@ pub returns-in-Ok-clause-kept : goal.returns-in-Ok-clause-kept
 returns-in-Ok-clause-kept g c = in-ok _ c.args.self.now c.take_in.new.self _ c.take_in.ensures (λ within is. in-left c.args.self.now c.take_in.new.self _ within is)
 
 pub returns-in-Err-clause-ran : goal.returns-in-Err-clause-ran
-returns-in-Err-clause-ran g c = called (filled-err c.args.self.now c.requires) (filled-counted (Err _) c.fill.new.buf _ _ c.in-Err.ensures.cause) c.fill.ensures.start c.fill.ensures.counts c.in-Err.ensures.call
+returns-in-Err-clause-ran g c = called (filled-err c.args.self.now c.requires)
+    (filled-counted (Err _) c.fill.new.buf _ _ c.in-Err.ensures.cause) c.fill.ensures.start c.fill.ensures.counts c.in-Err.ensures.call

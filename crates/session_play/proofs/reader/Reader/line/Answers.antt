@@ -12,7 +12,12 @@ pub returns-in-Some-clause-ran : goal.returns-in-Some-clause-ran
 returns-in-Some-clause-ran g c = Ran-map (λ es reads. line-taken _ _ _ _ es (rw c.in-Some.is at c.in_ok-line.ensures.ok) reads) c.lines.invariant.ran
 
 pub lines-preserved : goal.lines-preserved
-lines-preserved g c = let h = rw c.in-None.is at c.in_ok-line.ensures.ok in record { ran = Ran-then (reads-on _ _ _ _ (c.drop_used.ensures ∙ h.1)) c.lines.invariant.ran c.in_ok-fill-in-None.ensures.ran; kept = c.in_ok-fill-in-None.ensures.kept ∙ ap left (c.drop_used.ensures ∙ h.1) ∙ c.lines.invariant.kept }
+lines-preserved g c = let h = rw c.in-None.is at c.in_ok-line.ensures.ok in
+    record {
+      ran = Ran-then (reads-on _ _ _ _ (c.drop_used.ensures ∙ h.1)) c.lines.invariant.ran c.in_ok-fill-in-None.ensures.ran;
+      kept =
+          c.in_ok-fill-in-None.ensures.kept ∙ ap left (c.drop_used.ensures ∙ h.1) ∙ c.lines.invariant.kept;
+    }
 
 pub returns-in_err-fill-in-None-clause-ran : goal.returns-in_err-fill-in-None-clause-ran
 returns-in_err-fill-in-None-clause-ran g c =
@@ -21,4 +26,5 @@ returns-in_err-fill-in-None-clause-ran g c =
     rw (p.1, p.2) (Ran-then (line-cut-on _ _ _ c.args.self.now _ (c.drop_used.ensures ∙ h.1)) c.lines.invariant.ran c.in_err-fill-in-None.ensures.ran)
 
 pub returns-in-Some-clause-progress : goal.returns-in-Some-clause-progress
-returns-in-Some-clause-progress g c = let L : ℕ → Type 0 = λ n. OnSome c.in-Some.line (left c.take_line.new.self < n) in subst L c.lines.invariant.kept (line-less _ _ _ (rw c.in-Some.is at c.in_ok-line.ensures.ok))
+returns-in-Some-clause-progress g c = let L : ℕ → Type 0 = λ n. OnSome c.in-Some.line (left c.take_line.new.self < n) in
+    subst L c.lines.invariant.kept (line-less _ _ _ (rw c.in-Some.is at c.in_ok-line.ensures.ok))

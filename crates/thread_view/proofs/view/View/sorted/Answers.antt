@@ -11,4 +11,8 @@ listed-requires-clause-once c =
 
 pub listed-requires-clause-few : goal.listed-requires-clause-few
 listed-requires-clause-few c =
-    omega (arith, ap (λ (l : List ℕ). length l) c.of.ensures, order_length (length c.args.rows.now) c.in_ok-order.order.items (sorted-once c.args.key c.args.rows.now c.in_ok-order.order.items c.in_ok-order.ensures))
+    omega (
+      arith,
+      ap (λ (l : List ℕ). length l) c.of.ensures,
+      order_length (length c.args.rows.now) c.in_ok-order.order.items (sorted-once c.args.key c.args.rows.now c.in_ok-order.order.items c.in_ok-order.ensures),
+    )

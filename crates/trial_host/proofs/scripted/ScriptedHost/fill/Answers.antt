@@ -13,6 +13,7 @@ invariant_of-self c =
       scripted =
           scripted memory c.fill.new.self _ c.args.self.now.scripted c.fill.ensures.planned.plan (as-planned _ _ _ c.fill.ensures.planned) c.fill.ensures.call
           (λ es told d e.
-          filled-step c.fill.result c.fill.new.buf _ _ room (min room memory.plan.chunk) d e (unfailed memory c.fill.new.self _ es c.args.self.now.scripted c.fill.ensures.planned told) some c.fill.auto.buf
+          filled-step c.fill.result c.fill.new.buf _ _ room (min room memory.plan.chunk) d e
+          (unfailed memory c.fill.new.self _ es c.args.self.now.scripted c.fill.ensures.planned told) some c.fill.auto.buf
           c.fill.ensures.bound c.fill.ensures.given c.fill.ensures.left);
     }

@@ -1,0 +1,9 @@
+pub mod CommandLemmas
+pub mod RefusalLemmas
+pub mod KindLemmas
+pub mod PassLemmas
+pub mod RunLemmas
+pub mod NewMailLemmas
+pub mod OtherLemmas
+pub mod TooLongLemmas
+pub mod PremiseLemmas

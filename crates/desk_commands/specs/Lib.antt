@@ -1,0 +1,10 @@
+pub mod Viewing
+pub mod Deleting
+pub mod Flagging
+pub mod Leaving
+pub mod Setting
+pub mod Sourcing
+pub mod Conditions
+pub mod Naming
+pub mod Calling
+pub mod Defining

@@ -1,7 +1,0 @@
-use Rattle.host_port.proofs.RanLemmas.{Ran-none}
-use Rattle.session_play.proofs.PlayLemmas.{at-memory}
-use Rattle.draft_sending.specs.Sending.{saved_one}
-use Rattle.draft_sending.proofs.sending.save_one.Goals as goal
-
-pub returns-in-Err-clause-ran : goal.returns-in-Err-clause-ran
-returns-in-Err-clause-ran g c = Ran-none (at-memory (saved_one c.args.state.now c.args.change))

@@ -1,0 +1,4 @@
+use Rattle.mailx_session.proofs.fetching.Fetching.refuse.Goals as goal
+
+pub returns : goal.returns
+returns c = λ s. rw (c.in_ok-line.ensures, c.bytes.ensures) at (c.tell.ensures s)

@@ -1,3 +1,0 @@
-pub mod Deleting
-pub mod Flagging
-pub mod Leaving

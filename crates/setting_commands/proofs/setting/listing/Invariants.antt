@@ -1,7 +1,0 @@
-use Rattle.std.proofs.Common.{◌≡◌, take}
-use Rattle.std.specs.List.{flat_map}
-use Rattle.setting_commands.specs.Setting.{setting_line}
-use Rattle.setting_commands.proofs.setting.listing.Given as goal
-
-abbrev pub invariant-loop-k : goal.invariant-loop-k
-invariant-loop-k l = l.out ≡ flat_map setting_line (take l.k l.vars)

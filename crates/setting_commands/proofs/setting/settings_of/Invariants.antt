@@ -1,6 +1,0 @@
-use Rattle.std.proofs.Common.{◌≡◌, take, map}
-use Rattle.setting_commands.specs.Setting.{setting_of}
-use Rattle.setting_commands.proofs.setting.settings_of.Given as goal
-
-abbrev pub invariant-loop-word : goal.invariant-loop-word
-invariant-loop-word l = l.settings ≡ map setting_of (take l.word-index l.words)
