@@ -42,3 +42,4 @@ mod WorkedRun
 pub mod Fronts
 pub mod Betweens
 mod WorkedStart
+pub mod ToldLemmas

@@ -1,3 +1,4 @@
+ghost use Rattle.core_fact.specs.Parts.{CallsCanBeTold};
 ghost use Rattle.core_fact.specs.Added.{AddedTextsStay};
 ghost use Rattle.core_steps.specs.Refusals.{RefusalsAreThese};
 ghost use Rattle.core_steps.specs.Theorem.{EveryInterleaving, EachStepSettles, MessagesStay, PlacesAreFolded};
@@ -59,4 +60,11 @@ pub fn programs_interleave()
 pub fn programs_settle()
     ensures files { ProgramsSettle }
     ensures messages { ProgramsKeepMessages }
+{}
+
+/// Each call of another can be told by steps that do to no file and no lock what the call doesn't, and that lead from the
+/// disk just before it to the disk just after it. So a trace of one among the calls of others can be told, in the form in
+/// which those calls are lawful beside it. Where the caller is killed in it, it is asked that it has one right at most then.
+pub fn calls_can_be_told()
+    ensures { CallsCanBeTold }
 {}

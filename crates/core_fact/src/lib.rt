@@ -5,6 +5,7 @@
 mod laws;
 
 pub use laws::{
-    added_texts_stay, each_step_settles, every_interleaving, messages_stay, places_are_folded,
-    programs_interleave, programs_settle, refusals_are_these, runs_are_steps, traces_are_runs,
+    added_texts_stay, calls_can_be_told, each_step_settles, every_interleaving, messages_stay,
+    places_are_folded, programs_interleave, programs_settle, refusals_are_these, runs_are_steps,
+    traces_are_runs,
 };
