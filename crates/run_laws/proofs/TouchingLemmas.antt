@@ -24,7 +24,8 @@ use Rattle.core_steps.proofs.Ones.{record_names-one}
 use Rattle.core_steps.proofs.Tokens.{staged-token}
 use Rattle.core_steps.proofs.Touching.{Held, IsOwnName, Touches}
 use Rattle.core_fact.proofs.Heart.{names_apart}
-use Rattle.run_laws.specs.Beside.{written_by, removed_by, locks_of, IsPartOf, IsQuiet}
+use Rattle.core_fact.specs.Parts.{written_by, removed_by, locks_of, IsPartOf}
+use Rattle.run_laws.specs.Beside.{IsQuiet}
 use Rattle.run_laws.proofs.HarmlessLemmas.{Clear, IsHarmless}
 use Rattle.run_laws.proofs.QuietLemmas.{had_by_other, IsFree, IsQuietStep}
 

@@ -4,7 +4,6 @@ use Rattle.std.specs.declared.option.Option.TheVariants.{Some, None}
 use Rattle.host_port.specs.declared.event.Event.{Event}
 use Rattle.host_port.specs.declared.event.Event.TheVariants as event
 use Rattle.host_port.specs.declared.event.ForeignStep.{ForeignStep}
-use Rattle.host_port.specs.declared.event.ForeignStep.TheVariants.{Write, Remove, Lock, Unlock, Seize, Release}
 use Rattle.host_port.specs.Disk.{Disk, disk}
 use Rattle.host_port.specs.Own.{may_change}
 use Rattle.commit_record.specs.Names.{is_lawful}
@@ -17,34 +16,8 @@ use Rattle.core_steps.specs.Turns.{is_any_record_name}
 use Rattle.core_steps.specs.Starts.{begun, MayBegin}
 use Rattle.core_steps.specs.Programs.{Deed, disk_once, actor_at}
 use Rattle.folder_commit.specs.Safe.{MayCommit}
+use Rattle.core_fact.specs.Parts.{IsPartOf}
 use Rattle.run_laws.specs.Together.{IsGoing, calls_of, AreTold}
-
--- the files that a call may write, those that it may remove, and the locks that it may put or take away
-abbrev pub written_by : Event → List (List ℕ)
-written_by (event.Stage n c failed) = n ∷ []
-written_by (event.Publish from to true failed) = to ∷ []
-written_by (event.Extend n at tail failed) = n ∷ []
-written_by e = []
-
-abbrev pub removed_by : Event → List (List ℕ)
-removed_by (event.Stage n c failed) = n ∷ []
-removed_by (event.Publish from to true failed) = from ∷ []
-removed_by (event.Erase n done failed) = n ∷ []
-removed_by e = []
-
-abbrev pub locks_of : Event → List (List ℕ × ℕ)
-locks_of (event.Lock n t got failed) = (n, t) ∷ []
-locks_of (event.Unlock n t done failed) = (n, t) ∷ []
-locks_of e = []
-
--- a step that may tell a part of this call: it does to no file and no lock what the call doesn't
-abbrev pub IsPartOf : Event → ForeignStep → Type 0
-IsPartOf e (Write n bytes) = Mem n (written_by e)
-IsPartOf e (Remove n) = Mem n (removed_by e)
-IsPartOf e (Lock n t) = Mem (n, t) (locks_of e)
-IsPartOf e (Unlock n t) = Mem (n, t) (locks_of e)
-IsPartOf e (Seize n) = Unit {0}
-IsPartOf e (Release n) = Unit {0}
 
 -- A trace of the actor of this number among these calls, up to a moment: its own calls, looks beside them, and each call of another as steps that tell
 -- parts of it and lead from the disk just before it to the disk just after it. A call in which the actor is killed is its last event.
