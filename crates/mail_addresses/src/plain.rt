@@ -48,13 +48,13 @@ impl<'a> Plain<'a> {
 
 /// The one address of the value, if it is plain: a spec alone or after a name, of atoms and dots; the
 /// name is words with a space between or a quoted string without backslashes, and no blanks stand but after the
-/// name.
+/// name. A `>` at the end tells the two apart.
 pub(crate) fn plain_address(value: &[u8]) -> Option<Plain<'_>>
     ensures { IfSome result (λ a. Reads value.now (a ∷ [])) }
 {
-    match plain_spec(value) {
-        Some(address) => Some(address),
-        None => plain_angled(value),
+    match value.last() {
+        Some(b'>') => plain_angled(value),
+        _ => plain_spec(value),
     }
 }
 
