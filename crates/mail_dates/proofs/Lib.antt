@@ -2,6 +2,7 @@ pub mod ArrivalRoundTrip
 pub mod CivilDays
 pub mod DateSteps
 pub mod PartLemmas
+pub mod PlainDates
 pub mod PlainText
 pub mod RoundTrip
 pub mod ShownParts

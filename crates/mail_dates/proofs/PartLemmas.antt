@@ -1,5 +1,5 @@
 -- The parts at the front of a text.
-use Rattle.std.proofs.Common.{◌≡◌, ◌≢◌, ℕ, suc, ◌+◌, ◌<◌, ◌||◌, Bool, true, false, eqb, List, [], ◌∷◌, ◌++◌, length, take, drop, ◌==◌, ◌⊎◌, inl, inr, refl, sym, ◌∙◌, arith, None, Some}
+use Rattle.std.proofs.Common.{◌≡◌, ◌≢◌, ℕ, suc, ◌+◌, ◌<◌, ◌||◌, Bool, true, false, eqb, List, [], ◌∷◌, ◌++◌, length, take, drop, ◌==◌, ◌⊎◌, inl, inr, refl, sym, ap, ◌∙◌, arith, None, Some}
 use Rattle.std.proofs.lemmas.Bool.{cases_Bool, ne_eqb, cases_eq, and_parts, and_from}
 use Rattle.std.proofs.lemmas.Bool.Decides.{nat_tests}
 use Rattle.std.specs.Char.{is_ascii_digit, is_ascii_alphabetic}
@@ -409,3 +409,18 @@ pub signed_at_end : (sign : ℕ) (run : List ℕ) → is_sign sign ≡ true → 
 signed_at_end sign run is h =
     let long : prefix_len is_ascii_digit run ≡ length run = rw (append-nil run) at (prefix_len-run is_ascii_digit run [] h.all refl) in
     date_parts-signed sign run is (let some = h.some in omega arith) ∙ rw (long, take-length run, drop-length run, date_parts-nil) refl
+
+-- a run with the mark or the space that follows it
+pub name_comma : (run rest : List ℕ) (ps : List Part) → IsRun is_ascii_alphabetic run → date_parts rest ≡ ps → date_parts (run ++ 44 ∷ 32 ∷ rest) ≡ Word run ∷ Comma ∷ ps
+name_comma run rest ps h e =
+    word_then run (44 ∷ 32 ∷ rest) h refl ∙ ap (λ parts. Word run ∷ parts) (date_parts-comma (32 ∷ rest) ∙ ap (λ parts. Comma ∷ parts) (date_parts-space rest ∙ e))
+
+pub word_space : (run rest : List ℕ) (ps : List Part) → IsRun is_ascii_alphabetic run → date_parts rest ≡ ps → date_parts (run ++ 32 ∷ rest) ≡ Word run ∷ ps
+word_space run rest ps h e = word_then run (32 ∷ rest) h refl ∙ ap (λ parts. Word run ∷ parts) (date_parts-space rest ∙ e)
+
+pub number_space : (run rest : List ℕ) (ps : List Part) → IsRun is_ascii_digit run → date_parts rest ≡ ps → date_parts (run ++ 32 ∷ rest) ≡ Number run ∷ ps
+number_space run rest ps h e = number_then run (32 ∷ rest) h refl ∙ ap (λ parts. Number run ∷ parts) (date_parts-space rest ∙ e)
+
+pub number_colon : (run rest : List ℕ) (ps : List Part) → IsRun is_ascii_digit run → date_parts rest ≡ ps → date_parts (run ++ 58 ∷ rest) ≡ Number run ∷ Colon ∷ ps
+number_colon run rest ps h e =
+    number_then run (58 ∷ rest) h refl ∙ ap (λ parts. Number run ∷ parts) (date_parts-colon rest ∙ ap (λ parts. Colon ∷ parts) e)

@@ -5,7 +5,7 @@ use Rattle.std.specs.List.{list_all}
 use Rattle.std.proofs.Common.{◌≡◌, ◌==◌, ◌&&◌, nat_lt, nat_le, false, ℤ, pos, negsuc, ◌*ℤ◌, int_div, int_lt, unsigned_abs, Option, None, ℕ, suc, ◌+◌, ◌*◌, ◌/◌, ◌%◌, ◌<◌, ◌++◌, Bool, true, List, [], ◌∷◌, length, refl, ap, ◌∙◌, arith, append_assoc, Some}
 use Rattle.std.specs.Prelude.{codes, if◌then◌else◌}
 use Rattle.std.specs.Char.{is_ascii_digit, is_ascii_alphabetic}
-use Rattle.mail_dates.specs.Parts.{Part, Number, Word, Signed, Comma, Colon, date_parts}
+use Rattle.mail_dates.specs.Parts.{Number, Word, Signed, Comma, Colon, date_parts}
 use Rattle.mail_dates.specs.DateFields.{time, date, date_time, date_of}
 use Rattle.mail_dates.specs.Printed.{two, four, zone_text, calendar_form, date_form}
 use Rattle.mail_dates.specs.Names.{day_name, month_name}
@@ -16,21 +16,7 @@ use Rattle.mail_dates.specs.declared.moment.Moment.{Moment}
 use Rattle.mail_dates.specs.Clock.{IsPrintable, in_whole_minutes, clock_seconds, day_number, second_of_day}
 use Rattle.mail_dates.specs.Laws.{with_whole_minutes, ReadsBack}
 use Rattle.mail_dates.proofs.ShownParts.{shown}
-use Rattle.mail_dates.proofs.PartLemmas.{IsRun, is_sign, number_then, word_then, signed_at_end, date_parts-comma, date_parts-colon, date_parts-space}
-
-name_comma : (run rest : List ℕ) (ps : List Part) → IsRun is_ascii_alphabetic run → date_parts rest ≡ ps → date_parts (run ++ 44 ∷ 32 ∷ rest) ≡ Word run ∷ Comma ∷ ps
-name_comma run rest ps h e =
-    word_then run (44 ∷ 32 ∷ rest) h refl ∙ ap (λ parts. Word run ∷ parts) (date_parts-comma (32 ∷ rest) ∙ ap (λ parts. Comma ∷ parts) (date_parts-space rest ∙ e))
-
-word_space : (run rest : List ℕ) (ps : List Part) → IsRun is_ascii_alphabetic run → date_parts rest ≡ ps → date_parts (run ++ 32 ∷ rest) ≡ Word run ∷ ps
-word_space run rest ps h e = word_then run (32 ∷ rest) h refl ∙ ap (λ parts. Word run ∷ parts) (date_parts-space rest ∙ e)
-
-number_space : (run rest : List ℕ) (ps : List Part) → IsRun is_ascii_digit run → date_parts rest ≡ ps → date_parts (run ++ 32 ∷ rest) ≡ Number run ∷ ps
-number_space run rest ps h e = number_then run (32 ∷ rest) h refl ∙ ap (λ parts. Number run ∷ parts) (date_parts-space rest ∙ e)
-
-number_colon : (run rest : List ℕ) (ps : List Part) → IsRun is_ascii_digit run → date_parts rest ≡ ps → date_parts (run ++ 58 ∷ rest) ≡ Number run ∷ Colon ∷ ps
-number_colon run rest ps h e =
-    number_then run (58 ∷ rest) h refl ∙ ap (λ parts. Number run ∷ parts) (date_parts-colon rest ∙ ap (λ parts. Colon ∷ parts) e)
+use Rattle.mail_dates.proofs.PartLemmas.{IsRun, is_sign, signed_at_end, name_comma, word_space, number_space, number_colon}
 
 -- the parts of the form of a date, by the texts that it is made of
 parts_of_form : (name day month year hour minute second zone : List ℕ) (sign : ℕ)

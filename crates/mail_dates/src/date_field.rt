@@ -7,6 +7,7 @@ ghost use Rattle.mail_dates.specs.DateFields.{written_date, date_of};
 
 use crate::Moment;
 use crate::parts::{is_at_end, read_colon, read_comma, read_number, read_signed, read_word};
+use crate::plain_date::plain_date;
 use crate::values::{
     date_value, day_value, is_day_name, moment, month_value, time_value, year_value,
     zone_number_value, zone_word_value,
@@ -90,6 +91,17 @@ fn read_zone(text: &[u8]) -> Option<i32>
 /// The moment of a `Date` field's value, such as `Tue, 5 Mar 2024 09:15:00 +0100` (RFC 5322, sections 3.3
 /// and 4.3). None if the value is no date, or the calendar has no such day, hour, minute or second.
 pub fn read_date(value: &[u8]) -> Option<Moment>
+    ensures value { result ≡ date_of value.now }
+    ensures years { IfSome result IsInYears }
+{
+    match plain_date(value) {
+        Some(moment) => Some(moment),
+        None => any_date(value),
+    }
+}
+
+// The moment of a date, read part by part.
+fn any_date(value: &[u8]) -> Option<Moment>
     ensures value { result ≡ date_of value.now }
     ensures years { IfSome result IsInYears }
 {

@@ -9,6 +9,7 @@ mod message;
 mod moment;
 mod names;
 mod parts;
+mod plain_date;
 mod print;
 mod values;
 mod zone;

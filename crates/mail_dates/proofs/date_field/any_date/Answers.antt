@@ -3,7 +3,7 @@ use Rattle.std.proofs.lemmas.Int.{ints}
 use Rattle.mail_dates.specs.Values.{moment_of}
 use Rattle.mail_dates.specs.Parts.{date_parts}
 use Rattle.mail_dates.proofs.DateSteps.{date_time-steps}
-use Rattle.mail_dates.proofs.date_field.read_date.Goals as goal
+use Rattle.mail_dates.proofs.date_field.any_date.Goals as goal
 
 pub returns-in_err-rest-clause-value : goal.returns-in_err-rest-clause-value
 returns-in_err-rest-clause-value c = rw (c.from_residual.ensures, date_time-steps (date_parts c.args.value.now), ← c.in_err-rest.ensures) refl
