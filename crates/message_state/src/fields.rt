@@ -1,4 +1,5 @@
 ghost use Rattle.std.specs.Prelude.{◌≡◌};
+ghost use Rattle.mail_text.specs.Ascii.{same_ascii};
 ghost use Rattle.message_state.specs.Fields.{name_length, or_entry, AreFieldsOf, AreWithEntry};
 
 use mail_headers::{EntryRef, FieldRef, entries_in};
@@ -77,9 +78,16 @@ fn take_field<'a>(place: &mut Option<FieldRef<'a>>, entry: &EntryRef<'a>, name: 
 {
     if place.is_none() {
         if let Some(field) = entry.field() {
-            if same_ascii(field.name(), name) {
+            if is_named(&field, name) {
                 *place = Some(field);
             }
         }
     }
+}
+
+// Whether the field has this name, which most have as it is spelled here.
+fn is_named(field: &FieldRef<'_>, name: &[u8]) -> bool
+    ensures { result ≡ same_ascii field.now.name name.now }
+{
+    field.name() == name || same_ascii(field.name(), name)
 }
