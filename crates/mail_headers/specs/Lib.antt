@@ -2,3 +2,4 @@ pub mod Cutting
 pub mod Field
 pub mod Header
 pub mod Parts
+pub mod Unfolding

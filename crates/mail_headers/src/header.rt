@@ -107,6 +107,16 @@ pub fn entries_in(text: &[u8]) -> Entries<'_>
     Entries::of(after_line(text, line_length(text)))
 }
 
+/// The From line of a text and the entries of its header in order, in one look for the line's end. It takes no memory.
+pub fn cut_from_line(text: &[u8]) -> (&[u8], Entries<'_>)
+    ensures line { result.0.now ≡ from_line text.now }
+    ensures entries { result.1 ≡ entries_of text.now }
+{
+    let end = line_length(text);
+    let (line, _) = text.split_at(end);
+    (line, Entries::of(after_line(text, end)))
+}
+
 // What follows the first two line feeds in a row starts at this place, if there are any.
 fn body_place(text: &[u8]) -> Option<usize>
     ensures { IsBodyPlace text.now result }

@@ -10,7 +10,7 @@ mod laws;
 mod unfold;
 
 pub use entry::{EntryRef, FieldRef};
-pub use header::{Header, entries_in, from_line_in};
+pub use header::{Header, cut_from_line, entries_in, from_line_in};
 pub use iterators::{Entries, Fields};
 pub use laws::{entries_make_the_header, parts_make_the_text};
 pub use unfold::{UnfoldedValue, unfold_value, unfolded};

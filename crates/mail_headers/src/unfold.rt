@@ -7,21 +7,29 @@ use mail_text::{Memory, Text, is_blank, lines};
 use std::alloc::Global;
 use std::marker::Model;
 
+/// Where the bytes of an unfolded value stand.
+#[derive(Drop)]
+pub(crate) enum ValuePlace<'a> {
+    /// In the header.
+    Part(&'a [u8]),
+    /// In a text of their own.
+    Joined(Text),
+}
+
 /// The unfolded value of a field: a part of the header if it has no line feed, else a text of its own. Contracts see
 /// its bytes.
 #[derive(Drop)]
 pub struct UnfoldedValue<'a> {
-    part: Option<&'a [u8]>,
-    joined: Text,
+    place: ValuePlace<'a>,
 }
 
 impl<'a> Model for UnfoldedValue<'a> {
     ghost use Rattle.std.specs.Prelude.{List, ℕ};
-    ghost use Rattle.std.specs.Option.{option_copied, unwrap_or};
+    ghost use Rattle.mail_headers.specs.Unfolding.{bytes_at};
 
     ghost Value = { List ℕ };
 
-    ghost view = { λ u. unwrap_or (option_copied u.part) u.joined };
+    ghost view = { λ u. bytes_at u.place };
 }
 
 impl<'a> UnfoldedValue<'a> {
@@ -29,9 +37,9 @@ impl<'a> UnfoldedValue<'a> {
     pub fn bytes(&self) -> &[u8]
         ensures { result.now ≡ self.now }
     {
-        match self.part {
-            Some(part) => part,
-            None => self.joined.bytes(),
+        match &self.place {
+            ValuePlace::Part(part) => part,
+            ValuePlace::Joined(text) => text.bytes(),
         }
     }
 }
@@ -45,13 +53,11 @@ pub fn unfold_value<'a>(alloc: Global, field: FieldRef<'a>) -> Result<UnfoldedVa
     let value = trimmed(field);
     if flat {
         Ok(UnfoldedValue {
-            part: Some(value),
-            joined: Text::new(alloc),
+            place: ValuePlace::Part(value),
         })
     } else {
         Ok(UnfoldedValue {
-            part: None,
-            joined: joined(alloc, value)?,
+            place: ValuePlace::Joined(joined(alloc, value)?),
         })
     }
 }

@@ -1,8 +1,9 @@
 ghost use Rattle.std.specs.Prelude.{◌≡◌};
 ghost use Rattle.mail_text.specs.Ascii.{same_ascii};
+ghost use Rattle.mail_headers.specs.Header.{from_line};
 ghost use Rattle.message_state.specs.Fields.{name_length, or_entry, AreFieldsOf, AreWithEntry};
 
-use mail_headers::{EntryRef, FieldRef, entries_in};
+use mail_headers::{EntryRef, FieldRef, cut_from_line};
 use mail_text::same_ascii;
 
 // The fields that a mark and a row are made from: the first of each name.
@@ -19,10 +20,12 @@ pub(crate) struct RowFields<'a> {
     pub(crate) reply: Option<FieldRef<'a>>,
 }
 
-// The fields of a text's header that a mark and a row are made from, in one walk over it.
-pub(crate) fn row_fields(text: &[u8]) -> RowFields<'_>
-    ensures { AreFieldsOf text.now result }
+// The From line of a text, and the fields of its header that a mark and a row are made from, in one walk over it.
+pub(crate) fn row_fields(text: &[u8]) -> (&[u8], RowFields<'_>)
+    ensures line { result.0.now ≡ from_line text.now }
+    ensures fields { AreFieldsOf text.now result.1 }
 {
+    let (line, entries) = cut_from_line(text);
     let mut fields = RowFields {
         status: None,
         x_status: None,
@@ -34,10 +37,10 @@ pub(crate) fn row_fields(text: &[u8]) -> RowFields<'_>
         references: None,
         reply: None,
     };
-    for entry in entries_in(text) {
+    for entry in entries {
         take_entry(&mut fields, &entry);
     }
-    fields
+    (line, fields)
 }
 
 // Takes an entry in, if it is the first field of one of these names. Names are told apart by their length first.

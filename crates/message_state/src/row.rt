@@ -13,7 +13,7 @@ use crate::row_texts::RowTexts;
 use crate::status::mark_of_fields;
 use mail_addresses::{FoundAddress, first_address};
 use mail_dates::{Moment, after_from, moment_of, read_from_line};
-use mail_headers::{FieldRef, UnfoldedValue, from_line_in, unfold_value};
+use mail_headers::{FieldRef, UnfoldedValue, unfold_value};
 use mail_text::{Items, Memory, Text};
 use std::alloc::Global;
 
@@ -40,8 +40,8 @@ pub fn row_of(alloc: Global, text: &[u8]) -> Result<Row, Memory>
     ensures row { IfOk result (IsRow text.now) }
     ensures years { IfOk result (λ row. IfSome row.moment IsInYears) }
 {
-    let fields = row_fields(text);
-    let line = after_from(from_line_in(text));
+    let (line, fields) = row_fields(text);
+    let line = after_from(line);
     let mark = mark_of_fields(&fields.status, &fields.x_status);
     let moment = moment_of(alloc, fields.date, line)?;
     let references = ids_in(alloc, fields.references)?;

@@ -28,7 +28,7 @@ pub fn stamped(alloc: Global, text: &[u8], mark: Mark) -> Result<Text, Memory>
 pub fn is_stamped(alloc: Global, text: &[u8], mark: Mark) -> Result<bool, Memory>
     ensures { IfOk result (λ is. is ≡ is_stamped text.now mark) }
 {
-    let fields = row_fields(text);
+    let (_, fields) = row_fields(text);
     let flags = flags_in(raw_value(&fields.x_status));
     let has = has_letters(alloc, letters_of(mark), fields.status)?;
     Ok(has && same_flags(flags, mark.flags))
@@ -95,7 +95,7 @@ fn with_flags(alloc: Global, text: Text, flags: Flags) -> Result<Text, Memory>
 fn flags_of(text: &[u8]) -> Flags
     ensures { result ≡ flags_of text.now }
 {
-    let fields = row_fields(text);
+    let (_, fields) = row_fields(text);
     flags_in(raw_value(&fields.x_status))
 }
 

@@ -3,8 +3,8 @@ use Rattle.mail_headers.specs.Header.{Entry}
 use Rattle.message_state.proofs.FoundLemmas.{AreFound, are_found_first, are_found_step, are_found_last}
 use Rattle.message_state.proofs.fields.row_fields.Goals as goal
 
-pub returns : goal.returns
-returns c =
+pub returns-clause-fields : goal.returns-clause-fields
+returns-clause-fields c =
     let left = λ (es : List Entry). AreFound c.args.text.now es c.loop-entry.fields in
     are_found_last c.args.text.now c.loop-entry.fields (subst left c.in-None.ensures.steps.0 c.loop-entry.invariant.2)
 
@@ -12,7 +12,7 @@ pub loop-entry-init : goal.loop-entry-init
 loop-entry-init c = (
   tt,
   tt,
-  are_found_first c.args.text.now _ (c.into_iter-entry-iterator.ensures.into_iter_gives ∙ c.entries_in-entry-items.ensures),
+  are_found_first c.args.text.now _ (c.into_iter-entry-iterator.ensures.into_iter_gives ∙ c.cut_from_line-entries.ensures.entries),
 )
 
 pub loop-entry-preserved : goal.loop-entry-preserved
