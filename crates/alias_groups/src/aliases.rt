@@ -247,7 +247,7 @@ impl Aliases {
     /// alias is added; an alias that is met for the first time is walked through; one that is met inside its own walk
     /// is added as a name; one whose walk is over adds nothing. Names of aliases are compared byte for byte. No name
     /// is added twice, ASCII case ignored. Without `metoo` a name of `own` that is reached through an alias is left
-    /// out. `TooMany` comes exactly if there would be more than 10,000 names.
+    /// out. `TooMany` comes exactly if there would be more than 10,000 names. It uses a stack and no recursion.
     pub fn expand(&self, names: &[Text], own: &Own, metoo: bool) -> Result<Vec<Text>, ExpandError>
         ensures names { IfOk result (λ all. all.items ≡ expansion self.now own.now metoo names.now) }
         ensures few { IfOk result (λ all. length all.items ≤ 10000) }

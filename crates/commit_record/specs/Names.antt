@@ -1,4 +1,5 @@
 -- The names that a record may have.
+-- It may hold line feeds, since its length stands before it in the text of a record.
 use Rattle.std.specs.Prelude.{ℕ, ◌-◌, Bool, not, ◌==◌, ◌&&◌, ◌||◌, nat_le, nat_lt, List, length, take, drop, codes}
 use Rattle.std.specs.List.{list_all, list_any, ends_with}
 use Rattle.std.specs.Str.{bytes_eq}

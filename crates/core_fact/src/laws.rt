@@ -12,12 +12,12 @@ pub fn every_interleaving()
     ensures { EveryInterleaving }
 {}
 
-/// A step changes what recovery by all leaves by the changes of its own commit place, and by nothing else.
+/// A step changes what recovery by all leaves by the changes of the commit places that it adds, and by nothing else.
 pub fn each_step_settles()
     ensures { EachStepSettles }
 {}
 
-/// A message that stands stays until a later change leaves it out.
+/// A message that stands stays until a later change leaves it out, or puts bytes behind it as they are.
 pub fn messages_stay()
     ensures { MessagesStay }
 {}
@@ -27,7 +27,8 @@ pub fn places_are_folded()
     ensures { PlacesAreFolded }
 {}
 
-/// What a commit place adds to a mailbox stands in it until a later change leaves it out.
+/// What a commit place adds to a mailbox, proper texts alone, stands in it until a later change leaves it out, or puts
+/// bytes behind it as they are.
 pub fn added_texts_stay()
     ensures { AddedTextsStay }
 {}

@@ -22,7 +22,7 @@ abbrev pub put_bytes : What → List ℕ
 put_bytes (Texts texts) = join texts
 put_bytes (Bytes bytes) = bytes
 
--- once what was gathered is put into its files, each file has all that it had, and each thing stands in its file
+-- once what was gathered is put into its files, each thing stands in its file
 abbrev pub GatheredIsPut : Type 0
 GatheredIsPut = (gathered : List Gathered) (base : List (List ℕ)) (files : Files) (one : Gathered)
     → Contains gathered one

@@ -15,8 +15,8 @@ use Rattle.quit_rules.specs.Plans.{messages_of, stamped_text, staying, boxed, le
 abbrev pub with_boxed : Settings → List (List ℕ) → List (List ℕ) → List (List ℕ)
 with_boxed vars texts there = if is_set vars (codes "append") then there ++ texts else texts ++ there
 
--- A folder is left whose bytes are a mailbox, and mbox is another file. Then mbox has the texts that go there, and all that stood there once
--- what was gathered was put into its files.
+-- A folder is left whose bytes are a mailbox, and mbox is another file, and a mailbox once what was gathered was put into its files. Then mbox has the
+-- texts that go there, and all that stood there then.
 abbrev pub QuitsFillMbox : Type 0
 QuitsFillMbox = (folder : Open) (vars : Settings) (mbox : List ℕ) (gathered : List Gathered) (base there : List (List ℕ)) (files : Files)
     → is_mailbox folder.folder ≡ true → folder.name ≢ mbox

@@ -5,8 +5,9 @@ ghost use Rattle.filing_laws.specs.Marking.{EachFlagAlone};
 ghost use Rattle.filing_laws.specs.Saving.{MarkedIsPut};
 ghost use Rattle.filing_laws.specs.Telling.{GatheredIsTold, PutIsAtTheEnd, QuitsTellBehind};
 
-/// A law of every quit: the texts that go to mbox stand there afterwards, in order, before all that stood there or was
-/// gathered for it, or behind it with `append`.
+/// A law of quits, if the folder is a mailbox, and mbox another file and a mailbox once what was gathered was put into its
+/// files: the texts that go to mbox stand there afterwards, in order, before all that stands there then, or behind it with
+/// `append`.
 pub fn quits_fill_mbox()
     ensures { QuitsFillMbox }
 {}

@@ -1,4 +1,5 @@
 -- What the command line asks for, as the manual says which flags, options and operands go together.
+-- Which single words are refused is the clause of `read_words`, and shown by cases of leaf_cases.
 use Rattle.std.specs.Prelude.{◌≡◌, ◌≢◌, ◌≤◌, ◌⊎◌, ◌↔◌, ℕ, true, false, List, [], length, decimal}
 use Rattle.std.specs.Prelude.{Some, None}
 use Rattle.command_words.specs.declared.mode.Mode.{Mode}

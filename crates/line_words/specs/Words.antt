@@ -1,4 +1,5 @@
 -- The words of a line: what it is cut into by blanks, quotes and backslashes, and a line of lists by parentheses too.
+-- After the `)` that closes it a word goes on as any word; a `(` that nothing closes takes the blanks at the end of the line too.
 use Rattle.std.specs.Prelude.{◌≡◌, ◌⊎◌, ℕ, suc, ◌-◌, Bool, true, false, not, ◌==◌, ◌||◌, ◌&&◌, List, [], ◌∷◌, ◌++◌, map, filter, flat_map, Option, Some, None, option_map, if◌then◌else◌}
 use Rattle.std.specs.List.{list_all, slice_split}
 use Rattle.mail_text.specs.Ascii.{is_blank}

@@ -1,4 +1,6 @@
 -- The pieces of an address list and what they spell (RFC 5322, section 3.4, address-list and group, with the empty pieces of section 4.4).
+-- Control bytes but blanks, outside of quotes, comments and literals, make their piece bad. A colon outside of brackets begins a group even without a name,
+-- so `a@x: b, c` is one bad piece.
 use Rattle.std.specs.Prelude.{◌≡◌, ◌≢◌, ◌⊎◌, ℕ, Bool, false, ◌+◌, if◌then◌else◌, List, [], ◌∷◌, ◌++◌, slice_get, Option, None}
 use Rattle.std.specs.List.{list_all}
 use Rattle.mail_addresses.specs.declared.address.Address.{Address}

@@ -1,5 +1,6 @@
 -- The parts of a date's text. Blanks and comments may stand around each part: RFC 5322, sections 3.2.2
 -- and 4.3.
+-- A zone's sign and digits are one part, so `+ 0100` is no zone.
 use Rattle.std.specs.Prelude.{ℕ, zero, suc, ◌||◌, ◌==◌, if◌then◌else◌, List, [], ◌∷◌}
 use Rattle.std.specs.Char.{is_ascii_digit, is_ascii_alphabetic}
 

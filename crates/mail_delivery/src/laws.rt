@@ -5,8 +5,8 @@ pub fn a_delivery_is_one_message()
     ensures { DeliveredIsProper }
 {}
 
-/// A law: a delivery to users each of whom is named once puts its text once behind the messages of each one's mailbox,
-/// and changes no other file.
+/// A law: a delivery to users each of whom is named once puts its text once behind the messages of each one's mailbox, if
+/// that is one, and changes no other file.
 pub fn each_gets_one()
     ensures { EachGetsOne }
 {}
@@ -25,7 +25,7 @@ pub fn a_delivery_reads_back()
 {}
 
 /// A law: after a delivery that is answered with 0 its text stands once behind what each user's mailbox held just before
-/// its decision, at each moment and at each disk that a stop leaves, until others change the mailbox.
+/// its decision, if that was a mailbox, at each moment and at each disk that a stop leaves, until others change it.
 pub fn done_stands()
     ensures { DoneStands }
 {}

@@ -1,5 +1,6 @@
 -- A message's text by its parts: the From line, the header's lines, the body (RFC 5322, section 2.1), and the fields of
 -- the header (section 2.2).
+-- A line of blanks alone isn't empty, and a carriage return is no blank and ends no line.
 use Rattle.std.specs.Prelude.{◌≢◌, ℕ, ◌-◌, Bool, true, false, ◌&&◌, ◌==◌, List, [], ◌∷◌, ◌++◌, length, drop, find, slice_index, Option, Some, None, if◌then◌else◌}
 use Rattle.std.specs.List.{take_while, join_with_byte, filter_map}
 use Rattle.mail_text.specs.Ascii.{same_ascii}

@@ -1,4 +1,5 @@
 -- Which words are criteria: `(`, one or more keys separated by blanks, `)`.
+-- A run may be the name of a key where a string is asked for: `(subject all)`.
 use Rattle.std.specs.Prelude.{◌≡◌, ℕ, ℤ, suc, ◌-◌, Bool, true, ◌==◌, ◌&&◌, List, [], ◌∷◌, ◌++◌, length, slice_index, Option, Some, None}
 use Rattle.std.specs.Option.{option_map, option_and_then}
 use Rattle.mail_text.specs.Number.{number_of}

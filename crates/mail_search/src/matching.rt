@@ -26,7 +26,7 @@ pub(crate) enum Held<'a> {
 
 /// Whether a message of this text, of which these facts are known, meets the criterion. The text ends before its last
 /// line feed. Each key reads it once at most, and a key that can't change the answer doesn't, if it isn't made of others.
-/// Keys that ask for fields share one reading of the header.
+/// Keys that ask for fields share one reading of the header. Keys are gone over by a stack, without recursion.
 /// Fails only if memory runs out.
 pub fn matches(
     alloc: Global,

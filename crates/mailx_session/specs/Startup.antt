@@ -1,4 +1,5 @@
 -- The start-up files.
+-- For each of them commands are counted anew, and it is none of the 16 sourced files.
 use Rattle.std.specs.Prelude.{◌≡◌, ℕ, false, List, [], ◌∷◌, ◌++◌, length, if◌then◌else◌}
 use Rattle.std.specs.declared.option.Option.{Option}
 use Rattle.std.specs.declared.option.Option.TheVariants.{Some, None}

@@ -1,4 +1,5 @@
 -- What a file name stands for.
+-- A value of the variable `folder` isn't expanded itself.
 use Rattle.std.specs.Prelude.{◌≡◌, ◌⊎◌, ◌==◌, ℕ, Bool, List, [], ◌++◌, length, drop, codes, nat_eq, unwrap_or, if◌then◌else◌}
 use Rattle.std.specs.declared.result.Result.{Result}
 use Rattle.std.specs.declared.result.Result.TheVariants.{Ok, Err}

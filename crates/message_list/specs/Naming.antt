@@ -1,4 +1,6 @@
 -- Which messages a word of a list names.
+-- A range whose end is no message of the view, or is turned, names nothing. `.`, `+` and `-` start from the current message even if that is deleted.
+-- A word without `@` is compared with the whole bare address too.
 use Rattle.std.specs.Prelude.{ℕ, ◌-◌, Bool, true, false, not, ◌&&◌, ◌||◌, ◌==◌, nat_le, List, [], drop, slice_get, Option, Some, None, unwrap_or}
 use Rattle.std.specs.Option.{option_and_then}
 use Rattle.std.specs.List.{list_any}

@@ -1,4 +1,5 @@
 -- The text of a message with its mark stamped on it, in the fields `Status` and `X-Status`.
+-- A text without a body that ends in a line feed loses that line feed if it is changed.
 use Rattle.std.specs.Prelude.{ℕ, Bool, false, not, ◌&&◌, ◌||◌, ◌==◌, List, [], ◌∷◌, ◌++◌, map, filter, Option, Some, None, codes, if◌then◌else◌}
 use Rattle.std.specs.Str.{bytes_eq}
 use Rattle.std.specs.Option.{is_some, unwrap_or}

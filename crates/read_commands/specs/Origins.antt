@@ -1,4 +1,6 @@
 -- Where a line comes from, and the commands that may stand there.
+-- After the faults of a line's form come those of its message list, and then those of variables. Which message is current then the manual page tells,
+-- command by command.
 use Rattle.std.specs.Prelude.{◌≡◌, ℕ, Bool, true, false, not, ◌&&◌, List, Option, IfOk, is_some, if◌then◌else◌}
 use Rattle.std.specs.List.{list_all}
 use Rattle.std.specs.declared.option.Option.TheVariants.{Some, None}

@@ -29,7 +29,8 @@ RunsArePrograms = (start : Option Start) (env : Environment) (status : Status) (
     → AllSpareRecords actors run.whole.plays
     → IsProgramOf actors (record { name = actor_in env; token = env.token }) (asked_in run.whole.plays) (commits_in run.whole.plays)
 
--- Up to a moment others did what is lawful. Then the crash promise stands of all that happened up to there, whatever they did after it.
+-- Up to a moment others did what is lawful. Then the crash promise, for some list of commits, stands of all that happened up to there, whatever they did
+-- after it.
 abbrev pub RunPromisesStand : Type 0
 RunPromisesStand = (start : Option Start) (env : Environment) (status : Status) (d : Disk) (front rest : List Event)
     → IsRun start env status (own (front ++ rest)) → MayRunUpTo (actor_in env) env.token d front rest

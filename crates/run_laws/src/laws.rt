@@ -101,7 +101,8 @@ pub fn runs_are_lawful()
     ensures { RunsAreLawful }
 {}
 
-/// What a run of the program promised up to a moment stands, whatever others do after it.
+/// Up to a moment others did what is lawful. Then what was due up to there, by the decisions of some list of commits, stands,
+/// whatever others do after it. That these are the run's own commits isn't said here.
 pub fn run_promises_stand()
     ensures { RunPromisesStand }
 {}
@@ -116,9 +117,10 @@ pub fn runs_in_a_row()
     ensures which { SaysWhich }
 {}
 
-/// If a commit of a run leaves a folder, each message that stood in its file stands there still, be it one that was read or
-/// one that others had appended; or, but for its stamp, it stands there or in mbox; or it was deleted, or saved in the system
-/// mailbox. And mbox has all that it had.
+/// If a commit of a run leaves a folder for which nothing was gathered, and mbox is another file, and a mailbox once what was
+/// gathered was put into its files: then each message that stood in the folder's file stands there still, be it one that was
+/// read or one that others had appended; or, but for its stamp, it stands there or in mbox; or it was deleted, or saved in the
+/// system mailbox. And mbox has all that it had.
 pub fn quits_keep_messages()
     ensures { QuitsKeepMessages }
 {}
