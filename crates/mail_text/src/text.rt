@@ -53,6 +53,14 @@ impl Text {
         Ok(())
     }
 
+    /// Makes room for so many bytes behind those that are there, or more. The text is as before, also if memory runs out.
+    pub fn reserve(&mut self, more: usize) -> Result<(), Memory>
+        ensures { self.new ≡ self.old }
+    {
+        self.bytes.try_reserve(more)?;
+        Ok(())
+    }
+
     /// The bytes.
     pub fn bytes(&self) -> &[u8]
         ensures { result.now ≡ self.now }
