@@ -10,7 +10,6 @@ pub mod SawLemmas
 pub mod DecisionLemmas
 pub mod AfterLemmas
 pub mod JudgeLemmas
-pub mod MakingLemmas
 pub mod FrontLemmas
 pub mod DriveLemmas
 pub mod BeginLemmas

@@ -13,4 +13,4 @@ pub use laws::{
     add_appends, applied_in_order, each_file_alone, front_prepends, others_stay,
     rewrite_by_the_base, rewrite_keeps_the_rest,
 };
-pub use writing::{missing_feeds, outcome};
+pub use writing::{add_texts, missing_feeds, outcome};

@@ -30,10 +30,20 @@ fn push_written(file: &mut Text, text: &[u8]) -> Result<(), Memory>
     file.push(b"\n\n")
 }
 
-/// Puts texts at the end of a file, each with its two line feeds.
+// How much room texts take, each with its two line feeds.
+fn room_of(texts: &[Text]) -> usize {
+    let mut room: usize = 0;
+    for text in texts {
+        room = room.saturating_add(text.bytes().len()).saturating_add(2);
+    }
+    room
+}
+
+/// Puts texts at the end of a file, each with its two line feeds; room for all is made at once.
 fn push_texts(file: &mut Text, texts: &[Text]) -> Result<(), Memory>
     ensures { OnOk result (file.new ≡ file.old ++ join texts.now) }
 {
+    file.reserve(room_of(texts))?;
     for text in texts {
         push_written(file, text.bytes())?;
     }
@@ -111,14 +121,22 @@ fn rewrite(
     }
 }
 
+/// Puts texts behind what a file holds, in its place: the line feeds that it lacks, and the texts, each with its own two.
+pub fn add_texts(file: &mut Text, texts: &[Text]) -> Result<(), Memory>
+    ensures { OnOk result (file.new ≡ file.old ++ missing_feeds file.old ++ join texts.now) }
+{
+    let feeds = missing_feeds(file.bytes());
+    file.push(feeds)?;
+    push_texts(file, texts)
+}
+
 /// The current bytes, the line feeds that they lack, and the texts.
 fn add(alloc: Global, current: &[u8], texts: &[Text]) -> Result<Text, Memory>
     ensures { IfOk result (λ file.
         file ≡ current.now ++ missing_feeds current.now ++ join texts.now) }
 {
     let mut file = Text::copy(alloc, current)?;
-    file.push(missing_feeds(current))?;
-    push_texts(&mut file, texts)?;
+    add_texts(&mut file, texts)?;
     Ok(file)
 }
 

@@ -7,7 +7,7 @@ ghost use Rattle.command_desk.specs.Faults.{changed_at};
 ghost use Rattle.folder_commands.specs.Making.{made, Makes, listed, openable, openable_file, is_other, made_folder};
 
 use command_desk::{Refusal, fault};
-use folder_change::{Change, ChangeError, change_name, missing_feeds, outcome};
+use folder_change::{Change, ChangeError, add_texts, change_name, outcome};
 use itoa::Buffer;
 use mail_text::{Memory, Text};
 use mbox_scan::{Folder, ScanError, is_mailbox};
@@ -30,12 +30,7 @@ fn bytes_of(file: &Option<Text>) -> Option<&[u8]>
 fn add(mut file: Text, texts: &[Text]) -> Result<Text, Memory>
     ensures { IfOk result (λ now. now ≡ file ++ missing_feeds file ++ join texts.now) }
 {
-    let feeds = missing_feeds(file.bytes());
-    file.push(feeds)?;
-    for text in texts {
-        file.push(text.bytes())?;
-        file.push(b"\n\n")?;
-    }
+    add_texts(&mut file, texts)?;
     Ok(file)
 }
 

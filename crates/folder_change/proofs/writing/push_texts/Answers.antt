@@ -5,9 +5,9 @@ use Rattle.mbox_scan.proofs.JoinLemmas.{join-nil, join-more}
 use Rattle.folder_change.proofs.writing.push_texts.Goals as goal
 
 pub loop-text-init : goal.loop-text-init
-loop-text-init c = sym (ap (λ (l : List ℕ). c.args.file.now ++ l) join-nil ∙ append-nil c.args.file.now)
+loop-text-init c = sym (ap (λ (l : List ℕ). c.reserve.new.self ++ l) join-nil ∙ append-nil c.reserve.new.self)
 
 pub loop-text-preserved : goal.loop-text-preserved
 loop-text-preserved c =
     c.in_ok-push_written.ensures ∙ ap (λ (t : List ℕ). c.loop-text.file ++ written t) (c.bytes.ensures ∙ c.text-item.is)
-    ∙ join-more c.loop-text.file c.args.file.now c.args.texts.now c.loop-text.text-index c.text-item.result (omega arith) c.loop-text.invariant
+    ∙ join-more c.loop-text.file c.reserve.new.self c.args.texts.now c.loop-text.text-index c.text-item.result (omega arith) c.loop-text.invariant
