@@ -31,26 +31,26 @@ use Rattle.commit_driver.specs.declared.judge.Trouble.{Trouble}
 use Rattle.commit_driver.specs.declared.judge.Trouble.TheVariants as trouble
 use Rattle.commit_driver.specs.declared.place.Plan.{Plan}
 use Rattle.commit_driver.specs.declared.place.Place.{Place}
-use Rattle.commit_driver.specs.Steps.{call_at, recovered_at, Fits, round, weight, tested_at, went_at, faulted_at, long_at, short_at}
+use Rattle.commit_driver.specs.Steps.{call_at, recovered_at, Fits, round, weight, tested_at, done_at, faulted_at, too_large_at, no_memory_at}
 use Rattle.commit_driver.specs.Judging.{TroubleFits}
 use Rattle.commit_driver.specs.Places.{files_of, entries_of, ways_in, ways_of, made_from, state_as, Holds, IsPlan, IsPlace, IsCounted, StandsFor}
-use Rattle.commit_driver.specs.Answers.{IsAnswer, reply_as, mending_at, judged_at, Finds, PassedSo, LooksAt, Looks, Takes, SawSo, Answered, at_step, IsCommitOf, IsLastLoad, Follows, is_long, is_settled, Caused, ReplyCaused, IsAfter}
+use Rattle.commit_driver.specs.Answers.{IsAnswer, reply_as, closing_at, judged_at, Finds, PassedSo, LooksAt, Looks, Takes, LoadedSo, Answered, at_step, IsCommitOf, IsLastLoad, Follows, is_too_large, is_settled, Caused, ReplyCaused, IsAfter}
 use Rattle.commit_driver.proofs.StateLemmas.{unlocking-all, drop-some}
 use Rattle.commit_driver.proofs.NextLemmas.{files-long, edits-long}
-use Rattle.commit_driver.proofs.FitLemmas.{of-if, of-staging, fits-went, fits-fault, fits-long, fits-short, fits-placing, fits-tested, fits-undoing, fits-unlocking, fits-staging, lighter-went, lighter-fault, lighter-long, lighter-short, under-placing, under-tested, under-undoing, under-unlocking, under-staging, settled-went, settled-fault, settled-long, settled-short, caused-went, caused-fault, caused-long, caused-short, caused-placing, caused-tested, caused-undoing, caused-unlocking, Loads}
-use Rattle.commit_driver.proofs.AnswerLemmas.{went-same, fault-same, long-same, holds-went, holds-fault, holds-long, holds-short}
+use Rattle.commit_driver.proofs.FitLemmas.{of-if, of-staging, fits-done, fits-fault, fits-too-large, fits-no-memory, fits-placing, fits-tested, fits-undoing, fits-unlocking, fits-staging, lighter-done, lighter-fault, lighter-too-large, lighter-no-memory, under-placing, under-tested, under-undoing, under-unlocking, under-staging, settled-done, settled-fault, settled-too-large, settled-no-memory, caused-done, caused-fault, caused-too-large, caused-no-memory, caused-placing, caused-tested, caused-undoing, caused-unlocking, Loads}
+use Rattle.commit_driver.proofs.AnswerLemmas.{done-same, fault-same, too-large-same, holds-done, holds-fault, holds-too-large, holds-no-memory}
 use Rattle.commit_driver.proofs.FileLemmas.{record-files, record-staged}
 use Rattle.commit_driver.proofs.SawLemmas.{AreNamed, length-set, look-follows, test-follows, check-follows, more-follows, last-follows}
 
 false-true : true ≡ false → ⊥
 false-true h = let x : true ≡ false = h in absurd (cc)
 
-loads-of : (s : Step) (r : Reply) → IsAnswer (call_at s) r → (is_loaded : Bool) → ((b : Bool) → r ≡ reply.Went b → ⊥) → (r ≡ reply.Fault → ⊥) → Loads s
+loads-of : (s : Step) (r : Reply) → IsAnswer (call_at s) r → (is_loaded : Bool) → ((b : Bool) → r ≡ reply.Done b → ⊥) → (r ≡ reply.Fault → ⊥) → Loads s
 loads-of step.Looking r a b h g = tt
 loads-of (step.Testing at) r a b h g = tt
 loads-of (step.Loading at) r a b h g = tt
 loads-of step.Checking r a b h g = tt
-loads-of s (reply.Went x) a b h g = absurd (h x refl)
+loads-of s (reply.Done x) a b h g = absurd (h x refl)
 loads-of s reply.Fault a b h g = absurd (g refl)
 loads-of (step.Extending at then.GoOn) r a b h g = absurd a
 loads-of (step.Extending at (then.Answer x)) r a b h g = absurd a
@@ -58,14 +58,14 @@ loads-of (step.Unlocking at e then.GoOn) r a b h g = absurd a
 loads-of (step.Unlocking at e (then.Answer x)) r a b h g = absurd a
 loads-of s r a b h g = absurd a
 
-loads-long : (s : Step) (k : ℕ) → IsAnswer (call_at s) (reply.Long k) → Loads s
-loads-long s k a = loads-of s (reply.Long k) a true (λ b e. absurd (cc)) (λ e. absurd (cc))
+loads-too-large : (s : Step) (k : ℕ) → IsAnswer (call_at s) (reply.TooLarge k) → Loads s
+loads-too-large s k a = loads-of s (reply.TooLarge k) a true (λ b e. absurd (cc)) (λ e. absurd (cc))
 
-loads-short : (s : Step) → IsAnswer (call_at s) reply.Short → Loads s
-loads-short s a = loads-of s reply.Short a true (λ b e. absurd (cc)) (λ e. absurd (cc))
+loads-no-memory : (s : Step) → IsAnswer (call_at s) reply.NoMemory → Loads s
+loads-no-memory s a = loads-of s reply.NoMemory a true (λ b e. absurd (cc)) (λ e. absurd (cc))
 
-loads-saw : (s : Step) (c : Option (List ℕ)) → IsAnswer (call_at s) (reply.Saw c) → Loads s
-loads-saw s c a = loads-of s (reply.Saw c) a true (λ b e. absurd (cc)) (λ e. absurd (cc))
+loads-loaded : (s : Step) (c : Option (List ℕ)) → IsAnswer (call_at s) (reply.Loaded c) → Loads s
+loads-loaded s c a = loads-of s (reply.Loaded c) a true (λ b e. absurd (cc)) (λ e. absurd (cc))
 
 -- a place whose step alone changes stays a place of its plan
 place-step : (plan : Plan) (old : Place) (s : Step) → IsPlace plan old → Fits (files_of plan) (entries_of old) s → IsPlace plan (at_step old s)
@@ -97,21 +97,21 @@ module _ (plan : Plan) (old : Place) (q : IsPlace plan old) (counted : IsCounted
   After r now = IsAfter plan r changes base old now
 
   -- an answer that leads to a step by numbers alone
-  by-step : (r : Reply) (s : Step) → Fits n m s → weight s < weight old.step → (is_settled s ≡ false → (is_settled old.step ≡ false) × (is_long r ≡ false))
+  by-step : (r : Reply) (s : Step) → Fits n m s → weight s < weight old.step → (is_settled s ≡ false → (is_settled old.step ≡ false) × (is_too_large r ≡ false))
       → ((before after : ℕ) → Caused before after old.step → ReplyCaused before after r → Caused before after s)
       → ((j : Job) (t : State) → IsPlan j plan → (IsLastLoad plan old.step r → (j.edits ≡ None) ⊎ IsCommitOf j changes base) → StandsFor j old t
       → Follows j (at_step old s) (after_reply j t (reply_as r)))
       → (now : Place) → now ≡ at_step old s → After r now
   by-step r s f l u c go now is = subst (After r) (sym is) (record { place = place-step plan old s q f; lighter = l; settled = u; caused = c; follows = go })
 
-  after-went : (b : Bool) → IsAnswer (call_at old.step) (reply.Went b) → (now : Place) → Answered plan (reply.Went b) changes base old now → After (reply.Went b) now
-  after-went b a now is =
+  after-done : (b : Bool) → IsAnswer (call_at old.step) (reply.Done b) → (now : Place) → Answered plan (reply.Done b) changes base old now → After (reply.Done b) now
+  after-done b a now is =
       let ws = ways_of old in
-      let s = went_at ws plan.commits n m (recovered_at old.found) old.step b in
-      by-step (reply.Went b) s (fits-went ws plan.commits n m (recovered_at old.found) old.step b (λ e. counted.some e) q.fits a)
-      (lighter-went ws plan.commits n m (recovered_at old.found) old.step b counted.few q.few q.fits a)
-      (λ e. (settled-went ws plan.commits n m (recovered_at old.found) old.step b a e, refl))
-      (λ before after c x. caused-went before after ws plan.commits n m (recovered_at old.found) old.step b a c)
+      let s = done_at ws plan.commits n m (recovered_at old.found) old.step b in
+      by-step (reply.Done b) s (fits-done ws plan.commits n m (recovered_at old.found) old.step b (λ e. counted.some e) q.fits a)
+      (lighter-done ws plan.commits n m (recovered_at old.found) old.step b counted.few q.few q.fits a)
+      (λ e. (settled-done ws plan.commits n m (recovered_at old.found) old.step b a e, refl))
+      (λ before after c x. caused-done before after ws plan.commits n m (recovered_at old.found) old.step b a c)
       (λ j t p for st. (
         went_on j t b,
         inl refl,
@@ -119,8 +119,8 @@ module _ (plan : Plan) (old : Place) (q : IsPlace plan old) (counted : IsCounted
           hidden = st.hidden;
           wanted = st.wanted;
           made = st.made;
-          holds = holds-went j plan old st.hidden st.made p q (recovered_at old.found) old.step b st.holds a;
-          is = went-same j plan old st.hidden st.made p q old.step b q.fits st.holds a ∙ ap (λ (z : State). went_on j z b) st.is;
+          holds = holds-done j plan old st.hidden st.made p q (recovered_at old.found) old.step b st.holds a;
+          is = done-same j plan old st.hidden st.made p q old.step b q.fits st.holds a ∙ ap (λ (z : State). went_on j z b) st.is;
         },
       ))
       now is
@@ -143,12 +143,12 @@ module _ (plan : Plan) (old : Place) (q : IsPlace plan old) (counted : IsCounted
       ))
       now is
 
-  after-long : (k : ℕ) → IsAnswer (call_at old.step) (reply.Long k) → (now : Place) → Answered plan (reply.Long k) changes base old now → After (reply.Long k) now
-  after-long k a now is =
-      let l = loads-long old.step k a in
-      by-step (reply.Long k) (long_at n old.step k) (fits-long n m old.step k q.fits) (lighter-long n m old.step k counted.few q.fits l)
-      (λ e. absurd (false-true (sym (settled-long n old.step k) ∙ e)))
-      (λ before after c x. caused-long before after n old.step k l x c)
+  after-too-large : (k : ℕ) → IsAnswer (call_at old.step) (reply.TooLarge k) → (now : Place) → Answered plan (reply.TooLarge k) changes base old now → After (reply.TooLarge k) now
+  after-too-large k a now is =
+      let l = loads-too-large old.step k a in
+      by-step (reply.TooLarge k) (too_large_at n old.step k) (fits-too-large n m old.step k q.fits) (lighter-too-large n m old.step k counted.few q.fits l)
+      (λ e. absurd (false-true (sym (settled-too-large n old.step k) ∙ e)))
+      (λ before after c x. caused-too-large before after n old.step k l x c)
       (λ j t p for st. (
         too_long j t k,
         inl refl,
@@ -156,20 +156,20 @@ module _ (plan : Plan) (old : Place) (q : IsPlace plan old) (counted : IsCounted
           hidden = st.hidden;
           wanted = st.wanted;
           made = st.made;
-          holds = holds-long j plan old st.hidden st.made p q old.step k;
-          is = long-same j plan old st.hidden st.made p q old.step k q.fits l ∙ ap (λ (z : State). too_long j z k) st.is;
+          holds = holds-too-large j plan old st.hidden st.made p q old.step k;
+          is = too-large-same j plan old st.hidden st.made p q old.step k q.fits l ∙ ap (λ (z : State). too_long j z k) st.is;
         },
       ))
       now is
 
   -- a load that runs out of memory
-  short-follows : (j : Job) (s : Step) (t : State) (hidden : Ending) (made : List Made) → IsPlan j plan → Fits n m s → Loads s
-      → state_as j hidden made old.found old.seen old.files s ≡ t → StandsFor j (at_step old (short_at n s)) (wanted j t)
-  short-follows j step.Looking t hidden made p f l is =
+  no-memory-follows : (j : Job) (s : Step) (t : State) (hidden : Ending) (made : List Made) → IsPlan j plan → Fits n m s → Loads s
+      → state_as j hidden made old.found old.seen old.files s ≡ t → StandsFor j (at_step old (no_memory_at n s)) (wanted j t)
+  no-memory-follows j step.Looking t hidden made p f l is =
       record { hidden = NoMemory; wanted = inl refl; made = made; holds = tt; is = ap (wanted j) is }
-  short-follows j (step.Testing at) t hidden made p f l is =
+  no-memory-follows j (step.Testing at) t hidden made p f l is =
       record { hidden = NoMemory; wanted = inl refl; made = made; holds = tt; is = ap (wanted j) is }
-  short-follows j (step.Loading at) t hidden made p f l is =
+  no-memory-follows j (step.Loading at) t hidden made p f l is =
       let es = edits_of j in
       let ms = made_from es (take at old.files) in
       let w = drop-some es at (omega (arith, f, edits-long j plan p)) in
@@ -177,20 +177,20 @@ module _ (plan : Plan) (old : Place) (q : IsPlace plan old) (counted : IsCounted
         hidden = NoMemory;
         wanted = inl refl;
         made = made;
-        holds = holds-short j plan old NoMemory made p q (step.Loading at);
+        holds = holds-no-memory j plan old NoMemory made p q (step.Loading at);
         is = unlocking-all j NoMemory made old.found old.seen old.files n (then.Answer end.NoMemory) (files-long j plan p)
             ∙ sym (ap (λ (xs : List Edit). wanted j (loading j ms xs)) w.1) ∙ ap (wanted j) is;
       }
-  short-follows j step.Checking t hidden made p f l is = record { hidden = NoMemory; wanted = inl refl; made = made; holds = tt; is = ap (wanted j) is }
-  short-follows j s t hidden made p f l is = absurd l
+  no-memory-follows j step.Checking t hidden made p f l is = record { hidden = NoMemory; wanted = inl refl; made = made; holds = tt; is = ap (wanted j) is }
+  no-memory-follows j s t hidden made p f l is = absurd l
 
-  after-short : IsAnswer (call_at old.step) reply.Short → (now : Place) → Answered plan reply.Short changes base old now → After reply.Short now
-  after-short a now is =
-      let l = loads-short old.step a in
-      by-step reply.Short (short_at n old.step) (fits-short n m old.step) (lighter-short n m old.step counted.few q.fits l)
-      (λ e. (settled-short n old.step l e, refl))
-      (λ before after c x. caused-short before after n old.step l c)
-      (λ j t p for st. (wanted j t, inl refl, short-follows j old.step t st.hidden st.made p q.fits l st.is))
+  after-no-memory : IsAnswer (call_at old.step) reply.NoMemory → (now : Place) → Answered plan reply.NoMemory changes base old now → After reply.NoMemory now
+  after-no-memory a now is =
+      let l = loads-no-memory old.step a in
+      by-step reply.NoMemory (no_memory_at n old.step) (fits-no-memory n m old.step) (lighter-no-memory n m old.step counted.few q.fits l)
+      (λ e. (settled-no-memory n old.step l e, refl))
+      (λ before after c x. caused-no-memory before after n old.step l c)
+      (λ j t p for st. (wanted j t, inl refl, no-memory-follows j old.step t st.hidden st.made p q.fits l st.is))
       now is
 
   -- what a load of the record saw
@@ -199,7 +199,7 @@ module _ (plan : Plan) (old : Place) (q : IsPlace plan old) (counted : IsCounted
     at-looking j t st = sym (ap (state_as j st.hidden st.made old.found old.seen old.files) looking) ∙ st.is
 
     look-goes : (file : Option (List ℕ)) (now : Place) → Looks plan file old now → (j : Job) (t : State) → IsPlan j plan
-        → (IsLastLoad plan old.step (reply.Saw file) → (j.edits ≡ None) ⊎ IsCommitOf j changes base) → StandsFor j old t → Follows j now (saw j t file)
+        → (IsLastLoad plan old.step (reply.Loaded file) → (j.edits ≡ None) ⊎ IsCommitOf j changes base) → StandsFor j old t → Follows j now (saw j t file)
     look-goes file now l j t p for st = subst (λ (z : State). Follows j now (saw j z file)) (at-looking j t st) (look-follows j plan old p q st.hidden st.wanted st.made file now l)
 
     was-open : is_settled old.step ≡ false
@@ -209,7 +209,7 @@ module _ (plan : Plan) (old : Place) (q : IsPlace plan old) (counted : IsCounted
     lighter-than s l = subst (λ (z : Step). weight s < weight z) (sym looking) l
 
     look-step : (file : Option (List ℕ)) (s : Step) (now : Place) → Fits n m s → weight s < 19 * round → ((before after : ℕ) → Caused before after s)
-        → now ≡ at_step old s → Looks plan file old now → After (reply.Saw file) now
+        → now ≡ at_step old s → Looks plan file old now → After (reply.Loaded file) now
     look-step file s now f l c is looks =
         record {
           place = subst (IsPlace plan) (sym is) (place-step plan old s q f);
@@ -219,7 +219,7 @@ module _ (plan : Plan) (old : Place) (q : IsPlace plan old) (counted : IsCounted
           follows = look-goes file now looks;
         }
 
-    found-place : (bytes : List ℕ) (found : Found) → Finds bytes (Ok found) → IsPlace plan (record old { step = mending_at found.value; found = found.value; found_staged = found.staged })
+    found-place : (bytes : List ℕ) (found : Found) → Finds bytes (Ok found) → IsPlace plan (record old { step = closing_at found.value; found = found.value; found_staged = found.staged })
     found-place bytes found finds =
         let r = found.value in
         let valid = finds.0.valid in
@@ -235,17 +235,17 @@ module _ (plan : Plan) (old : Place) (q : IsPlace plan old) (counted : IsCounted
           staged = subst (All IsFileName) (sym finds.1) (record-staged r valid);
         }
 
-    mending-light : (r : Record) → length r.entries ≤ file_limit → weight (mending_at r) < 19 * round
-    mending-light r few = of-if (λ (s : Step). weight s < 19 * round) (is_go r) _ _
+    closing-light : (r : Record) → length r.entries ≤ file_limit → weight (closing_at r) < 19 * round
+    closing-light r few = of-if (λ (s : Step). weight s < 19 * round) (is_go r) _ _
         (λ e. under-placing (ways_in r.entries []) (19 * round) 0 (length r.entries) then.GoOn (omega arith))
         (λ e. under-undoing (19 * round) 0 (length r.entries) (length r.entries) then.GoOn few (omega arith))
 
-    after-found : (bytes : List ℕ) (result : Result Found End) (now : Place) → Finds bytes result → LooksAt result old now → Looks plan (Some bytes) old now → After (reply.Saw (Some bytes)) now
+    after-found : (bytes : List ℕ) (result : Result Found End) (now : Place) → Finds bytes result → LooksAt result old now → Looks plan (Some bytes) old now → After (reply.Loaded (Some bytes)) now
     after-found bytes (Ok found) now finds is looks =
         let r = found.value in
         record {
           place = subst (IsPlace plan) (sym is) (found-place bytes found finds);
-          lighter = subst (λ (z : Place). weight z.step < weight old.step) (sym is) (lighter-than (mending_at r) (mending-light r (valid-few r finds.0.valid)));
+          lighter = subst (λ (z : Place). weight z.step < weight old.step) (sym is) (lighter-than (closing_at r) (closing-light r (valid-few r finds.0.valid)));
           settled = λ e. (was-open, refl);
           caused = λ before after x y. subst (λ (z : Place). Caused before after z.step) (sym is)
               (of-if (Caused before after) (is_go r) _ _ (λ e. caused-placing before after (ways_in r.entries []) 0 (length r.entries) then.GoOn tt)
@@ -256,7 +256,7 @@ module _ (plan : Plan) (old : Place) (q : IsPlace plan old) (counted : IsCounted
     after-found bytes (Err end.NoMemory) now finds is looks = look-step (Some bytes) (step.Releasing end.NoMemory) now tt (omega arith) (λ before after. tt) is looks
     after-found bytes (Err e) now finds is looks = absurd finds
 
-    after-looking : (file : Option (List ℕ)) (now : Place) → Looks plan file old now → After (reply.Saw file) now
+    after-looking : (file : Option (List ℕ)) (now : Place) → Looks plan file old now → After (reply.Loaded file) now
     after-looking None now is =
         look-step None _ now (of-if (Fits n m) plan.commits _ _ (λ e. counted.some e) (λ e. tt)) (of-if (λ (s : Step). weight s < 19 * round) plan.commits _ _ (λ e. omega arith) (λ e. omega arith))
         (λ before after. of-if (Caused before after) plan.commits _ _ (λ e. tt) (λ e. tt)) is is
@@ -268,7 +268,7 @@ module _ (plan : Plan) (old : Place) (q : IsPlace plan old) (counted : IsCounted
     at-some = subst (Fits n m) at-loading q.fits
 
     load-goes : (file : Option (List ℕ)) (now : Place) → Takes plan at file changes base old now → (j : Job) (t : State) → IsPlan j plan
-        → (IsLastLoad plan old.step (reply.Saw file) → (j.edits ≡ None) ⊎ IsCommitOf j changes base) → StandsFor j old t → Follows j now (saw j t file)
+        → (IsLastLoad plan old.step (reply.Loaded file) → (j.edits ≡ None) ⊎ IsCommitOf j changes base) → StandsFor j old t → Follows j now (saw j t file)
     load-goes file now (inl more) j t p for st =
         let some : is_some j.edits ≡ true = subst (Holds j st.made old.files old.ways old.go) at-loading st.holds in
         let is = sym (ap (state_as j st.hidden st.made old.found old.seen old.files) at-loading) ∙ st.is in
@@ -276,7 +276,7 @@ module _ (plan : Plan) (old : Place) (q : IsPlace plan old) (counted : IsCounted
     load-goes file now (inr over) j t p for st =
         let some : is_some j.edits ≡ true = subst (Holds j st.made old.files old.ways old.go) at-loading st.holds in
         let is = sym (ap (state_as j st.hidden st.made old.found old.seen old.files) at-loading) ∙ st.is in
-        let last : IsLastLoad plan old.step (reply.Saw file) = subst (λ (z : Step). IsLastLoad plan z (reply.Saw file)) (sym at-loading) over.0 in
+        let last : IsLastLoad plan old.step (reply.Loaded file) = subst (λ (z : Step). IsLastLoad plan z (reply.Loaded file)) (sym at-loading) over.0 in
         elim (for last) [
           | inl none ↦ absurd (false-true (sym some ∙ ap is_some none))
           | inr of ↦ subst (λ (z : State). Follows j now (saw j z file)) is (last-follows j plan old p q st.hidden st.wanted st.made changes base of named at file now at-some over)
@@ -308,7 +308,7 @@ module _ (plan : Plan) (old : Place) (q : IsPlace plan old) (counted : IsCounted
 
     load-step : (file : Option (List ℕ)) (s : Step) (fs : List (Option (List ℕ))) (ws : List Way) (go : List ℕ) (now : Place) → Fits n m s
         → length fs ≡ n → weight s < 9 * round + (file_limit - at) → ((before after : ℕ) → Caused before after s)
-        → now ≡ record old { step = s; files = fs; ways = ws; go = go } → Takes plan at file changes base old now → After (reply.Saw file) now
+        → now ≡ record old { step = s; files = fs; ways = ws; go = go } → Takes plan at file changes base old now → After (reply.Loaded file) now
     load-step file s fs ws go now f l w c is takes = record {
       place = subst (IsPlace plan) (sym is) (load-place s fs ws go f l);
       lighter = subst (λ (z : Place). weight z.step < weight old.step) (sym is) (subst (λ (z : Step). weight s < weight z) (sym at-loading) w);
@@ -317,7 +317,7 @@ module _ (plan : Plan) (old : Place) (q : IsPlace plan old) (counted : IsCounted
       follows = load-goes file now takes;
     }
 
-    after-loading : (file : Option (List ℕ)) (now : Place) → Takes plan at file changes base old now → After (reply.Saw file) now
+    after-loading : (file : Option (List ℕ)) (now : Place) → Takes plan at file changes base old now → After (reply.Loaded file) now
     after-loading file now (inl more) =
         load-step file (step.Loading (at + 1)) (slice_set old.files at file) old.ways old.go now more.0 (length-set old.files at file ∙ q.files_are)
         (omega (arith, at-some, counted.few)) (λ before after. tt) more.1 (inl more)
@@ -331,9 +331,9 @@ module _ (plan : Plan) (old : Place) (q : IsPlace plan old) (counted : IsCounted
 
   -- what a look at the record after a failed decision saw
   after-checking : (file : Option (List ℕ)) (now : Place) → old.step ≡ step.Checking → (x : Passed) → PassedSo old.go file x
-      → now ≡ at_step old (step.Releasing (end.Failed x)) → After (reply.Saw file) now
+      → now ≡ at_step old (step.Releasing (end.Failed x)) → After (reply.Loaded file) now
   after-checking file now at x so is =
-      by-step (reply.Saw file) (step.Releasing (end.Failed x)) tt (subst (λ (z : Step). round < weight z) (sym at) (omega arith)) (λ e. absurd (false-true e))
+      by-step (reply.Loaded file) (step.Releasing (end.Failed x)) tt (subst (λ (z : Step). round < weight z) (sym at) (omega arith)) (λ e. absurd (false-true e))
       (λ before after c y. subst (Caused before after) at c)
       (λ j t p for st.
       let same = sym (ap (state_as j st.hidden st.made old.found old.seen old.files) at) ∙ st.is in
@@ -344,11 +344,11 @@ module _ (plan : Plan) (old : Place) (q : IsPlace plan old) (counted : IsCounted
 
   -- what a look for the staged file of a removal or an extension saw
   after-testing : (at : ℕ) (file : Option (List ℕ)) (now : Place) → old.step ≡ step.Testing at
-      → now ≡ record old { step = tested_at (ways_of old) m at (is_some file); seen = file } → After (reply.Saw file) now
+      → now ≡ record old { step = tested_at (ways_of old) m at (is_some file); seen = file } → After (reply.Loaded file) now
   after-testing at file now e is =
       let s = tested_at (ways_of old) m at (is_some file) in
       let l : at < m = subst (Fits n m) e q.fits in
-      subst (After (reply.Saw file)) (sym is) (record {
+      subst (After (reply.Loaded file)) (sym is) (record {
         place = record {
           fits = fits-tested (ways_of old) n m at (is_some file) l;
           staged_are = q.staged_are;
@@ -368,16 +368,16 @@ module _ (plan : Plan) (old : Place) (q : IsPlace plan old) (counted : IsCounted
             (test-follows j plan old p q st.hidden st.wanted st.made at file (record old { step = s; seen = file }) l refl);
       })
 
-  after-saw : (file : Option (List ℕ)) (s : Step) (now : Place) → old.step ≡ s → IsAnswer (call_at s) (reply.Saw file) → SawSo plan file changes base old s now → After (reply.Saw file) now
-  after-saw file step.Looking now e a is = after-looking e file now is
-  after-saw file (step.Loading at) now e a is = after-loading at e file now is
-  after-saw file (step.Testing at) now e a is = after-testing at file now e is
-  after-saw file step.Checking now e a is = after-checking file now e is.0 is.1 is.2
-  after-saw file s now e a is = absurd (loads-saw s file a)
+  after-loaded : (file : Option (List ℕ)) (s : Step) (now : Place) → old.step ≡ s → IsAnswer (call_at s) (reply.Loaded file) → LoadedSo plan file changes base old s now → After (reply.Loaded file) now
+  after-loaded file step.Looking now e a is = after-looking e file now is
+  after-loaded file (step.Loading at) now e a is = after-loading at e file now is
+  after-loaded file (step.Testing at) now e a is = after-testing at file now e is
+  after-loaded file step.Checking now e a is = after-checking file now e is.0 is.1 is.2
+  after-loaded file s now e a is = absurd (loads-loaded s file a)
 
   pub is-after : (r : Reply) (now : Place) → IsAnswer (call_at old.step) r → Answered plan r changes base old now → After r now
-  is-after (reply.Went b) now a is = after-went b a now is
-  is-after (reply.Saw file) now a is = after-saw file old.step now refl a is
-  is-after (reply.Long k) now a is = after-long k a now is
-  is-after reply.Short now a is = after-short a now is
+  is-after (reply.Done b) now a is = after-done b a now is
+  is-after (reply.Loaded file) now a is = after-loaded file old.step now refl a is
+  is-after (reply.TooLarge k) now a is = after-too-large k a now is
+  is-after reply.NoMemory now a is = after-no-memory a now is
   is-after reply.Fault now a is = after-fault a now is

@@ -22,7 +22,7 @@ use Rattle.commit_driver.specs.declared.step.Step.TheVariants.{Looking, Undoing,
 use Rattle.commit_driver.specs.declared.answers.Reply.TheVariants as reply
 use Rattle.commit_driver.specs.declared.place.Plan.{Plan}
 use Rattle.commit_driver.specs.declared.place.Place.{Place}
-use Rattle.commit_driver.specs.Steps.{Ways, call_at, count_at, passed_end, passed_then, unlocking_at, undoing_at, known_at, placing_at, tested_at, faulted_at, long_at, short_at, recovered_at, closed_at, went_at, Fits}
+use Rattle.commit_driver.specs.Steps.{Ways, call_at, count_at, passed_end, passed_then, unlocking_at, undoing_at, known_at, placing_at, tested_at, faulted_at, too_large_at, no_memory_at, recovered_at, closed_at, done_at, Fits}
 use Rattle.commit_driver.specs.Places.{nth, files_of, entries_of, ways_of, nth_item, PlacesSo, passed_as, found_as, end_as, then_as, made_from, names_as, state_as, WantedAs, IsMade, Holds, IsPlan, IsPlace}
 use Rattle.commit_driver.specs.Answers.{IsAnswer}
 use Rattle.commit_driver.proofs.StateLemmas.{drop-some, drop-map, nth-map, take-next, unlocking-view, undoing-view, WaysAre, unlocking-is, unlocking-all, undoing-is, placing-is, locking-is, staging-is}
@@ -75,9 +75,9 @@ module _ (j : Job) (plan : Plan) (place : Place) (hidden : Ending) (made : List 
   edit-taken : (at : ℕ) (e : Edit) (left : List Edit) → drop at (edits_of j) ≡ e ∷ left → take (at + 1) (all_of j) ≡ take at (all_of j) ++ e.name ∷ []
   edit-taken at e left is = take-next (all_of j) at e.name (map (λ (e : Edit). e.name) left) (drop-map (λ (e : Edit). e.name) (edits_of j) at ∙ ap (map (λ (e : Edit). e.name)) is)
 
-  went-clearing : (c : Recovered) (o : Option (List Edit)) → plan.commits ≡ is_some o → at_step (if plan.commits then Preparing else Releasing (end.Recovered c)) ≡ mended o (found_as c)
-  went-clearing c None e = ap (λ (b : Bool). at_step (if b then Preparing else Releasing (end.Recovered c))) e
-  went-clearing c (Some es) e = ap (λ (b : Bool). at_step (if b then Preparing else Releasing (end.Recovered c))) e
+  done-clearing : (c : Recovered) (o : Option (List Edit)) → plan.commits ≡ is_some o → at_step (if plan.commits then Preparing else Releasing (end.Recovered c)) ≡ mended o (found_as c)
+  done-clearing c None e = ap (λ (b : Bool). at_step (if b then Preparing else Releasing (end.Recovered c))) e
+  done-clearing c (Some es) e = ap (λ (b : Bool). at_step (if b then Preparing else Releasing (end.Recovered c))) e
 
   pub looked-none : (o : Option (List Edit)) → plan.commits ≡ is_some o → at_step (if plan.commits then Preparing else Clearing recovered.Nothing) ≡ none_stands o
   looked-none None e = ap (λ (b : Bool). at_step (if b then Preparing else Clearing recovered.Nothing)) e
@@ -110,26 +110,26 @@ module _ (j : Job) (plan : Plan) (place : Place) (hidden : Ending) (made : List 
       (names_of found) machine.GoOn) (way-found found.entries at)
 
   abbrev Went : Step → Bool → Type 0
-  Went s b = at_step (went_at (ways_of place) plan.commits (files_of plan) (entries_of place) (recovered_at found) s b) ≡ went_on j (at_step s) b
+  Went s b = at_step (done_at (ways_of place) plan.commits (files_of plan) (entries_of place) (recovered_at found) s b) ≡ went_on j (at_step s) b
 
-  went-erasing : (th : Then) (b : Bool) → Went (Erasing th) b
-  went-erasing GoOn b = ap machine.Clearing (found-same (is_go found) found.moment)
-  went-erasing (Answer e) b = refl
+  done-erasing : (th : Then) (b : Bool) → Went (Erasing th) b
+  done-erasing GoOn b = ap machine.Clearing (found-same (is_go found) found.moment)
+  done-erasing (Answer e) b = refl
 
-  went-locking : (at : ℕ) (b : Bool) → at < files_of plan → Went (Locking at) b
-  went-locking at true l =
+  done-locking : (at : ℕ) (b : Bool) → at < files_of plan → Went (Locking at) b
+  done-locking at true l =
       let w = edit-at at l in
       locking-is j hidden made found place.seen place.files (at + 1) (files_of plan) n-is
       ∙ ap (λ (ls : List (List ℕ)). locking j ls (drop (at + 1) (edits_of j))) (edit-taken at w.0 (drop (at + 1) (edits_of j)) w.1)
       ∙ sym (ap (λ (es : List Edit). went_on j (locking j (take at (all_of j)) es) true) w.1)
-  went-locking at false l =
+  done-locking at false l =
       let w = edit-at at l in
       unlocking-is j hidden made found place.seen place.files 0 at (Answer (end.Busy at)) (omega (arith, l, n-is))
       ∙ ap (λ (n : List ℕ). unlocking (prepare_of j) (take at (all_of j)) (machine.Answer (jobs.Refused (jobs.Busy n)))) (edit-name at w.0 (drop (at + 1) (edits_of j)) w.1)
       ∙ sym (ap (λ (es : List Edit). went_on j (locking j (take at (all_of j)) es) false) w.1)
 
-  went-staging : (at : ℕ) (b : Bool) → at < files_of plan → IsMade j made place.files place.ways place.go → Went (Staging at) b
-  went-staging at b l m =
+  done-staging : (at : ℕ) (b : Bool) → at < files_of plan → IsMade j made place.files place.ways place.go → Went (Staging at) b
+  done-staging at b l m =
       let long = made-long j plan made place.files place.ways place.go p m in
       let w = drop-some made at (omega (arith, l, long)) in
       let taken = take-next (all_of j) at w.0.edit.name (map (λ (x : Made). x.edit.name) (drop (at + 1) made))
@@ -138,35 +138,35 @@ module _ (j : Job) (plan : Plan) (place : Place) (hidden : Ending) (made : List 
       ∙ ap (λ (ns : List (List ℕ)). staging ns made (drop (at + 1) made)) taken
       ∙ sym (ap (λ (ms : List Made). went_on j (staging (take at (all_of j)) made ms) b) w.1)
 
-  pub went-same : (s : Step) (b : Bool) → Fits (files_of plan) (entries_of place) s → Holds j made place.files place.ways place.go s → IsAnswer (call_at s) (reply.Went b) → Went s b
-  went-same (Undoing at e locks th) b f h a =
+  pub done-same : (s : Step) (b : Bool) → Fits (files_of plan) (entries_of place) s → Holds j made place.files place.ways place.go s → IsAnswer (call_at s) (reply.Done b) → Went s b
+  done-same (Undoing at e locks th) b f h a =
       let c = count th in
       undoing-is j hidden made found place.seen place.files (at + 1) e locks th (omega (arith, f.1, c)) (omega (arith, f.2, c))
       ∙ sym (ap (λ (s : State). went_on j s b) (undoing-view j hidden made found place.seen place.files at e locks th f.0 (omega (arith, f.1, c))))
-  went-same (Placing at th) b f h a = placing-is j hidden made found place.seen place.files (ways_of place) (at + 1) (count_at (files_of plan) (entries_of place) th) th (count th) (ways-are th h)
-  went-same (Removing at th) b f h a = refl
-  went-same (Extending at th) b f h a = refl
-  went-same (Discarding at th) b f h a = placing-is j hidden made found place.seen place.files (ways_of place) (at + 1) (count_at (files_of plan) (entries_of place) th) th (count th) (ways-are th h)
-  went-same (Unlocking at e th) b f h a =
+  done-same (Placing at th) b f h a = placing-is j hidden made found place.seen place.files (ways_of place) (at + 1) (count_at (files_of plan) (entries_of place) th) th (count th) (ways-are th h)
+  done-same (Removing at th) b f h a = refl
+  done-same (Extending at th) b f h a = refl
+  done-same (Discarding at th) b f h a = placing-is j hidden made found place.seen place.files (ways_of place) (at + 1) (count_at (files_of plan) (entries_of place) th) th (count th) (ways-are th h)
+  done-same (Unlocking at e th) b f h a =
       let c = count th in
       unlocking-is j hidden made found place.seen place.files (at + 1) e th (omega (arith, f.1, c))
       ∙ sym (ap (λ (s : State). went_on j s b) (unlocking-view j hidden made found place.seen place.files at e th f.0 (omega (arith, f.1, c))))
-  went-same (Erasing th) b f h a = went-erasing th b
-  went-same (Clearing c) b f h a = went-clearing c j.edits p.commits_is
-  went-same Preparing b f h a = refl
-  went-same Publishing true f h a = locking-is j hidden made found place.seen place.files 0 (files_of plan) n-is
-  went-same Publishing false f h a = refl
-  went-same (Locking at) b f h a = went-locking at b f
-  went-same (Staging at) b f h a = went-staging at b f h
-  went-same Deciding b f h a = refl
-  went-same Committing true f h a = placing-is j hidden made found place.seen place.files (ways_of place) 0 (files_of plan) (Answer end.Done) n-is (ways-are (Answer end.Done) h)
-  went-same Committing false f h a = refl
-  went-same (Releasing e) b f h a = refl
-  went-same Looking b f h a = absurd a
-  went-same (Loading at) b f h a = absurd a
-  went-same (Testing at) b f h a = absurd a
-  went-same Checking b f h a = absurd a
-  went-same (Ended e) b f h a = absurd a
+  done-same (Erasing th) b f h a = done-erasing th b
+  done-same (Clearing c) b f h a = done-clearing c j.edits p.commits_is
+  done-same Preparing b f h a = refl
+  done-same Publishing true f h a = locking-is j hidden made found place.seen place.files 0 (files_of plan) n-is
+  done-same Publishing false f h a = refl
+  done-same (Locking at) b f h a = done-locking at b f
+  done-same (Staging at) b f h a = done-staging at b f h
+  done-same Deciding b f h a = refl
+  done-same Committing true f h a = placing-is j hidden made found place.seen place.files (ways_of place) 0 (files_of plan) (Answer end.Done) n-is (ways-are (Answer end.Done) h)
+  done-same Committing false f h a = refl
+  done-same (Releasing e) b f h a = refl
+  done-same Looking b f h a = absurd a
+  done-same (Loading at) b f h a = absurd a
+  done-same (Testing at) b f h a = absurd a
+  done-same Checking b f h a = absurd a
+  done-same (Ended e) b f h a = absurd a
 
   module _ (wanted : WantedAs (all_of j) hidden) where
     abbrev Faults : Step → Type 0
@@ -198,16 +198,16 @@ module _ (j : Job) (plan : Plan) (place : Place) (hidden : Ending) (made : List 
     fault-same (Releasing e) f h a = absurd a
     fault-same (Ended e) f h a = absurd a
 
-  pub long-same : (s : Step) (k : ℕ) → Fits (files_of plan) (entries_of place) s → Loads s → at_step (long_at (files_of plan) s k) ≡ too_long j (at_step s) k
-  long-same Looking k f l = refl
-  long-same (Testing at) k f l = ap (λ (n : List ℕ). machine.Releasing (jobs.Refused (jobs.TooLarge (staged_name found.token n) k))) (sym (name-found found.entries at))
-  long-same (Loading at) k f l =
+  pub too-large-same : (s : Step) (k : ℕ) → Fits (files_of plan) (entries_of place) s → Loads s → at_step (too_large_at (files_of plan) s k) ≡ too_long j (at_step s) k
+  too-large-same Looking k f l = refl
+  too-large-same (Testing at) k f l = ap (λ (n : List ℕ). machine.Releasing (jobs.Refused (jobs.TooLarge (staged_name found.token n) k))) (sym (name-found found.entries at))
+  too-large-same (Loading at) k f l =
       let w = edit-at at f in
       unlocking-all j hidden made found place.seen place.files (files_of plan) (Answer (end.TooLarge at k)) n-is
       ∙ ap (λ (n : List ℕ). refusing j [] (all_of j) (jobs.Refused (jobs.TooLarge n k))) (edit-name at w.0 (drop (at + 1) (edits_of j)) w.1)
       ∙ sym (ap (λ (es : List Edit). too_long j (loading j (made_from (edits_of j) (take at place.files)) es) k) w.1)
-  long-same Checking k f l = refl
-  long-same s k f l = absurd l
+  too-large-same Checking k f l = refl
+  too-large-same s k f l = absurd l
 
   -- what a step takes for granted holds at the next
   abbrev Held : Step → Type 0
@@ -230,43 +230,43 @@ module _ (j : Job) (plan : Plan) (place : Place) (hidden : Ending) (made : List 
   holds-closed came GoOn = tt
   holds-closed came (Answer e) = tt
 
-  pub holds-went : (came : Recovered) (s : Step) (b : Bool) → Held s → IsAnswer (call_at s) (reply.Went b) → Held (went_at (ways_of place) plan.commits (files_of plan) (entries_of place) came s b)
-  holds-went came (Undoing at e locks th) b h a = holds-undoing (at + 1) e locks th
-  holds-went came (Placing at th) b h a = holds-placing (ways_of place) (at + 1) (count_at (files_of plan) (entries_of place) th) th h
-  holds-went came (Removing at th) b h a = h
-  holds-went came (Extending at th) b h a = h
-  holds-went came (Discarding at th) b h a = holds-placing (ways_of place) (at + 1) (count_at (files_of plan) (entries_of place) th) th h
-  holds-went came (Unlocking at e th) b h a = holds-unlocking (at + 1) e th
-  holds-went came (Erasing th) b h a = holds-closed came th
-  holds-went came (Clearing c) b h a = of-if (Holds j made place.files place.ways place.go) plan.commits Preparing _ (λ e. sym p.commits_is ∙ e) (λ e. tt)
-  holds-went came Preparing b h a = h
-  holds-went came Publishing true h a = of-locking (Holds j made place.files place.ways place.go) 0 (files_of plan) (λ x. h) h
-  holds-went came Publishing false h a = tt
-  holds-went came (Locking at) true h a = of-locking (Holds j made place.files place.ways place.go) (at + 1) (files_of plan) (λ x. h) h
-  holds-went came (Locking at) false h a = holds-unlocking 0 at (Answer (end.Busy at))
-  holds-went came (Staging at) b h a = of-staging (Holds j made place.files place.ways place.go) (at + 1) (files_of plan) (λ x. h) h
-  holds-went came Deciding b h a = h
-  holds-went came Committing true h a = holds-placing (ways_of place) 0 (files_of plan) (Answer end.Done) h
-  holds-went came Committing false h a = tt
-  holds-went came (Releasing e) b h a = tt
-  holds-went came Looking b h a = absurd a
-  holds-went came (Loading at) b h a = absurd a
-  holds-went came (Testing at) b h a = absurd a
-  holds-went came Checking b h a = absurd a
-  holds-went came (Ended e) b h a = absurd a
+  pub holds-done : (came : Recovered) (s : Step) (b : Bool) → Held s → IsAnswer (call_at s) (reply.Done b) → Held (done_at (ways_of place) plan.commits (files_of plan) (entries_of place) came s b)
+  holds-done came (Undoing at e locks th) b h a = holds-undoing (at + 1) e locks th
+  holds-done came (Placing at th) b h a = holds-placing (ways_of place) (at + 1) (count_at (files_of plan) (entries_of place) th) th h
+  holds-done came (Removing at th) b h a = h
+  holds-done came (Extending at th) b h a = h
+  holds-done came (Discarding at th) b h a = holds-placing (ways_of place) (at + 1) (count_at (files_of plan) (entries_of place) th) th h
+  holds-done came (Unlocking at e th) b h a = holds-unlocking (at + 1) e th
+  holds-done came (Erasing th) b h a = holds-closed came th
+  holds-done came (Clearing c) b h a = of-if (Holds j made place.files place.ways place.go) plan.commits Preparing _ (λ e. sym p.commits_is ∙ e) (λ e. tt)
+  holds-done came Preparing b h a = h
+  holds-done came Publishing true h a = of-locking (Holds j made place.files place.ways place.go) 0 (files_of plan) (λ x. h) h
+  holds-done came Publishing false h a = tt
+  holds-done came (Locking at) true h a = of-locking (Holds j made place.files place.ways place.go) (at + 1) (files_of plan) (λ x. h) h
+  holds-done came (Locking at) false h a = holds-unlocking 0 at (Answer (end.Busy at))
+  holds-done came (Staging at) b h a = of-staging (Holds j made place.files place.ways place.go) (at + 1) (files_of plan) (λ x. h) h
+  holds-done came Deciding b h a = h
+  holds-done came Committing true h a = holds-placing (ways_of place) 0 (files_of plan) (Answer end.Done) h
+  holds-done came Committing false h a = tt
+  holds-done came (Releasing e) b h a = tt
+  holds-done came Looking b h a = absurd a
+  holds-done came (Loading at) b h a = absurd a
+  holds-done came (Testing at) b h a = absurd a
+  holds-done came Checking b h a = absurd a
+  holds-done came (Ended e) b h a = absurd a
 
   pub holds-fault : (s : Step) → Held s → Held (faulted_at s)
   holds-fault Committing h = ap (take 47) h.go_is ∙ front-taken (moment_of j) j.token (go_of j made).entries
   holds-fault s h = tt
 
-  pub holds-long : (s : Step) (k : ℕ) → Held (long_at (files_of plan) s k)
-  holds-long (Loading at) k = holds-unlocking 0 (files_of plan) (Answer (end.TooLarge at k))
-  holds-long (Testing at) k = tt
-  holds-long Looking k = tt
-  holds-long s k = tt
+  pub holds-too-large : (s : Step) (k : ℕ) → Held (too_large_at (files_of plan) s k)
+  holds-too-large (Loading at) k = holds-unlocking 0 (files_of plan) (Answer (end.TooLarge at k))
+  holds-too-large (Testing at) k = tt
+  holds-too-large Looking k = tt
+  holds-too-large s k = tt
 
-  pub holds-short : (s : Step) → Held (short_at (files_of plan) s)
-  holds-short (Loading at) = holds-unlocking 0 (files_of plan) (Answer end.NoMemory)
-  holds-short (Testing at) = tt
-  holds-short Looking = tt
-  holds-short s = tt
+  pub holds-no-memory : (s : Step) → Held (no_memory_at (files_of plan) s)
+  holds-no-memory (Loading at) = holds-unlocking 0 (files_of plan) (Answer end.NoMemory)
+  holds-no-memory (Testing at) = tt
+  holds-no-memory Looking = tt
+  holds-no-memory s = tt

@@ -12,7 +12,7 @@ use Rattle.commit_driver.specs.declared.place.Plan.{Plan}
 use Rattle.commit_driver.specs.declared.place.Place.{Place}
 use Rattle.commit_driver.specs.Judging.{Judges, TroubleFits}
 use Rattle.commit_driver.specs.Places.{files_of, file_ways, tails_for}
-use Rattle.commit_driver.specs.Answers.{judged_at, Settles, Takes, WritesGo}
+use Rattle.commit_driver.specs.Answers.{judged_at, MakesFiles, Takes, WritesGo}
 
 -- running out of memory may stand for what the files were judged as
 judged-still : (changes : List Change) (base names : List (List ℕ)) (files made : List (Option (List ℕ))) (judged result : Result Unit Trouble)
@@ -39,10 +39,10 @@ not-judged plan tails old why = record {
 }
 
 -- the files are judged, and it is settled how they come to be
-pub settles-so : (plan : Plan) (changes : List Change) (base : List (List ℕ)) (old now : Place) (tails : List (Option ℕ)) (judged result : Result Unit Trouble) (made : List (Option (List ℕ)))
+pub makes-files : (plan : Plan) (changes : List Change) (base : List (List ℕ)) (old now : Place) (tails : List (Option ℕ)) (judged result : Result Unit Trouble) (made : List (Option (List ℕ)))
     → tails ≡ tails_for changes (names_of plan.value) old.files → Judges changes base (names_of plan.value) old.files judged made → TroubleFits (files_of plan) judged → length made ≡ length old.files
-    → WritesGo plan tails judged (record old { files = made }) result now → Settles plan changes base old result now
-settles-so plan changes base old now tails judged result made tails_are j f long w = record {
+    → WritesGo plan tails judged (record old { files = made }) result now → MakesFiles plan changes base old result now
+makes-files plan changes base old now tails judged result made tails_are j f long w = record {
   made = made;
   judged = judged-still changes base (names_of plan.value) old.files made judged result w.same j;
   fits = fits-still (files_of plan) judged result w.same f;
@@ -57,8 +57,8 @@ settles-so plan changes base old now tails judged result made tails_are j f long
 }
 
 -- memory runs out before they are judged
-pub settles-short : (plan : Plan) (changes : List Change) (base : List (List ℕ)) (old : Place) → Settles plan changes base old (Err trouble.Memory) old
-settles-short plan changes base old = record {
+pub makes-none : (plan : Plan) (changes : List Change) (base : List (List ℕ)) (old : Place) → MakesFiles plan changes base old (Err trouble.Memory) old
+makes-none plan changes base old = record {
   made = old.files;
   judged = λ fs distinct seen. tt;
   fits = tt;
@@ -73,7 +73,7 @@ settles-short plan changes base old = record {
 }
 
 pub takes-of : (plan : Plan) (at : ℕ) (file : Option (List ℕ)) (changes : List Change) (base : List (List ℕ)) (old now : Place) (result : Result Unit Trouble) (s : Step)
-    → files_of plan ≤ at + 1 → Settles plan changes base (record old { files = slice_set old.files at file }) result now
+    → files_of plan ≤ at + 1 → MakesFiles plan changes base (record old { files = slice_set old.files at file }) result now
     → s ≡ judged_at (files_of plan) result → Takes plan at file changes base old (record now { step = s })
 takes-of plan at file changes base old now result s last w is =
     inr (last, record { result = result; place = now; settles = w; is = ap (λ (z : Step). (let q : Place = record now { step = z } in q)) is })

@@ -30,7 +30,7 @@ use Rattle.commit_driver.specs.declared.place.Place.{Place}
 use Rattle.commit_driver.specs.Did.{Did, LoadsFit}
 use Rattle.commit_driver.specs.Steps.{call_at, EndFits, Fits}
 use Rattle.commit_driver.specs.Places.{files_of, entries_of, call_in, end_as, begun, state_as, IsPlan, IsPlace, StandsFor, NextOf}
-use Rattle.commit_driver.specs.Answers.{reply_as, is_long, is_settled, EndCaused, ThenCaused, Caused, ReplyCaused, IsAfter}
+use Rattle.commit_driver.specs.Answers.{reply_as, is_too_large, is_settled, EndCaused, ThenCaused, Caused, ReplyCaused, IsAfter}
 use Rattle.commit_driver.proofs.WithinLemmas.{fits-none, fits-did, fits-both}
 use Rattle.commit_driver.specs.Drives.{AnswersSo, Performed, IsFor, is_past_limit, Drives}
 
@@ -120,11 +120,11 @@ same-long (machine.ToLock n t) a b h = ap long_reply h
 same-long (machine.ToSeize n) a b h = ap long_reply h
 same-long (machine.ToRelease n) a b h = ap long_reply h
 
-long-as : (r : Answer_of) → long_reply (reply_as r) ≡ is_long r
-long-as (answer.Went b) = refl
-long-as (answer.Saw c) = refl
-long-as (answer.Long n) = refl
-long-as answer.Short = refl
+long-as : (r : Answer_of) → long_reply (reply_as r) ≡ is_too_large r
+long-as (answer.Done b) = refl
+long-as (answer.Loaded c) = refl
+long-as (answer.TooLarge n) = refl
+long-as answer.NoMemory = refl
 long-as answer.Fault = refl
 
 -- the events carry the machine to the state that the place stands for
@@ -239,7 +239,7 @@ caused-on a b c s l h = tt
 
 reply-back : (a b c : ℕ) (r : Answer_of) → a ≤ b → ReplyCaused b c r → ReplyCaused a c r
 reply-back a b c answer.Fault l h = rose-back a b c l h
-reply-back a b c (answer.Long n) l h = h
+reply-back a b c (answer.TooLarge n) l h = h
 reply-back a b c r l h = tt
 
 -- a job that was driven so far

@@ -11,7 +11,7 @@ use Rattle.commit_driver.specs.declared.step.Then.TheVariants.{GoOn, Answer}
 use Rattle.commit_driver.specs.declared.step.Step.{Step}
 use Rattle.commit_driver.specs.declared.step.Step.TheVariants.{Looking, Undoing, Placing, Testing, Removing, Extending, Discarding, Unlocking, Erasing, Clearing, Preparing, Publishing, Locking, Loading, Staging, Deciding, Committing, Checking, Releasing, Ended}
 use Rattle.commit_driver.specs.declared.answers.Reply.TheVariants as reply
-use Rattle.commit_driver.specs.Steps.{Ways, call_at, count_at, ThenFits, Fits, unlocking_at, undoing_at, removing_at, extending_at, place_at, known_at, placing_at, tested_at, locking_at, staging_at, faulted_at, long_at, short_at, closed_at, went_at, then_rank, round, weight}
+use Rattle.commit_driver.specs.Steps.{Ways, call_at, count_at, ThenFits, Fits, unlocking_at, undoing_at, removing_at, extending_at, place_at, known_at, placing_at, tested_at, locking_at, staging_at, faulted_at, too_large_at, no_memory_at, closed_at, done_at, then_rank, round, weight}
 use Rattle.commit_driver.specs.Answers.{IsAnswer, settled_then, is_settled, ThenCaused, Caused}
 use Rattle.commit_driver.proofs.StateLemmas.{lt-or}
 
@@ -87,46 +87,46 @@ fits-closed : (n m : ℕ) (found : Found) (th : Then) → ThenFits n m th → Fi
 fits-closed n m found GoOn t = tt
 fits-closed n m found (Answer e) t = t
 
-pub fits-went : (ways : Ways) (commits : Bool) (n m : ℕ) (found : Found) (s : Step) (did : Bool) → (commits ≡ true → 0 < n) → Fits n m s
-    → IsAnswer (call_at s) (reply.Went did) → Fits n m (went_at ways commits n m found s did)
-fits-went ways commits n m found (Undoing at end locks th) did some f a = fits-undoing n m (at + 1) end locks th f.1 f.2 f.3
-fits-went ways commits n m found (Placing at th) did some f a = fits-placing ways n m (at + 1) th f.1
-fits-went ways commits n m found (Removing at th) did some f a = f
-fits-went ways commits n m found (Extending at th) did some f a = f
-fits-went ways commits n m found (Discarding at th) did some f a = fits-placing ways n m (at + 1) th f.1
-fits-went ways commits n m found (Unlocking at end th) did some f a = fits-unlocking n m (at + 1) end th f.1 f.2
-fits-went ways commits n m found (Erasing th) did some f a = fits-closed n m found th f
-fits-went ways commits n m found (Clearing x) did some f a = of-if (Fits n m) commits Preparing _ some (λ e. tt)
-fits-went ways commits n m found Preparing did some f a = f
-fits-went ways commits n m found Publishing true some f a = of-locking (Fits n m) 0 n (λ l. l) f
-fits-went ways commits n m found Publishing false some f a = tt
-fits-went ways commits n m found (Locking at) true some f a = of-locking (Fits n m) (at + 1) n (λ l. l) (omega (arith, f))
-fits-went ways commits n m found (Locking at) false some f a = fits-unlocking n m 0 at (Answer (end.Busy at)) (omega (arith, f)) f
-fits-went ways commits n m found (Staging at) did some f a = fits-staging n m (at + 1)
-fits-went ways commits n m found Deciding did some f a = tt
-fits-went ways commits n m found Committing true some f a = fits-placing ways n m 0 (Answer end.Done) tt
-fits-went ways commits n m found Committing false some f a = tt
-fits-went ways commits n m found (Releasing e) did some f a = f
-fits-went ways commits n m found Looking did some f a = absurd a
-fits-went ways commits n m found (Loading at) did some f a = absurd a
-fits-went ways commits n m found (Testing at) did some f a = absurd a
-fits-went ways commits n m found Checking did some f a = absurd a
-fits-went ways commits n m found (Ended e) did some f a = absurd a
+pub fits-done : (ways : Ways) (commits : Bool) (n m : ℕ) (found : Found) (s : Step) (did : Bool) → (commits ≡ true → 0 < n) → Fits n m s
+    → IsAnswer (call_at s) (reply.Done did) → Fits n m (done_at ways commits n m found s did)
+fits-done ways commits n m found (Undoing at end locks th) did some f a = fits-undoing n m (at + 1) end locks th f.1 f.2 f.3
+fits-done ways commits n m found (Placing at th) did some f a = fits-placing ways n m (at + 1) th f.1
+fits-done ways commits n m found (Removing at th) did some f a = f
+fits-done ways commits n m found (Extending at th) did some f a = f
+fits-done ways commits n m found (Discarding at th) did some f a = fits-placing ways n m (at + 1) th f.1
+fits-done ways commits n m found (Unlocking at end th) did some f a = fits-unlocking n m (at + 1) end th f.1 f.2
+fits-done ways commits n m found (Erasing th) did some f a = fits-closed n m found th f
+fits-done ways commits n m found (Clearing x) did some f a = of-if (Fits n m) commits Preparing _ some (λ e. tt)
+fits-done ways commits n m found Preparing did some f a = f
+fits-done ways commits n m found Publishing true some f a = of-locking (Fits n m) 0 n (λ l. l) f
+fits-done ways commits n m found Publishing false some f a = tt
+fits-done ways commits n m found (Locking at) true some f a = of-locking (Fits n m) (at + 1) n (λ l. l) (omega (arith, f))
+fits-done ways commits n m found (Locking at) false some f a = fits-unlocking n m 0 at (Answer (end.Busy at)) (omega (arith, f)) f
+fits-done ways commits n m found (Staging at) did some f a = fits-staging n m (at + 1)
+fits-done ways commits n m found Deciding did some f a = tt
+fits-done ways commits n m found Committing true some f a = fits-placing ways n m 0 (Answer end.Done) tt
+fits-done ways commits n m found Committing false some f a = tt
+fits-done ways commits n m found (Releasing e) did some f a = f
+fits-done ways commits n m found Looking did some f a = absurd a
+fits-done ways commits n m found (Loading at) did some f a = absurd a
+fits-done ways commits n m found (Testing at) did some f a = absurd a
+fits-done ways commits n m found Checking did some f a = absurd a
+fits-done ways commits n m found (Ended e) did some f a = absurd a
 
 pub fits-fault : (n m : ℕ) (s : Step) → Fits n m (faulted_at s)
 fits-fault n m Committing = tt
 fits-fault n m s = tt
 
-pub fits-long : (n m : ℕ) (s : Step) (k : ℕ) → Fits n m s → Fits n m (long_at n s k)
-fits-long n m (Loading at) k f = fits-unlocking n m 0 n (Answer (end.TooLarge at k)) (omega arith) f
-fits-long n m (Testing at) k f = f
-fits-long n m Looking k f = tt
-fits-long n m s k f = tt
+pub fits-too-large : (n m : ℕ) (s : Step) (k : ℕ) → Fits n m s → Fits n m (too_large_at n s k)
+fits-too-large n m (Loading at) k f = fits-unlocking n m 0 n (Answer (end.TooLarge at k)) (omega arith) f
+fits-too-large n m (Testing at) k f = f
+fits-too-large n m Looking k f = tt
+fits-too-large n m s k f = tt
 
-pub fits-short : (n m : ℕ) (s : Step) → Fits n m (short_at n s)
-fits-short n m (Loading at) = fits-unlocking n m 0 n (Answer end.NoMemory) (omega arith) tt
-fits-short n m Looking = tt
-fits-short n m s = tt
+pub fits-no-memory : (n m : ℕ) (s : Step) → Fits n m (no_memory_at n s)
+fits-no-memory n m (Loading at) = fits-unlocking n m 0 n (Answer end.NoMemory) (omega arith) tt
+fits-no-memory n m Looking = tt
+fits-no-memory n m s = tt
 
 -- each answer leaves less to do
 abbrev Under : ℕ → Step → Type 0
@@ -169,35 +169,35 @@ lighter-closed : (found : Found) (th : Then) → Under (weight (Erasing th)) (cl
 lighter-closed found GoOn = omega arith
 lighter-closed found (Answer e) = omega arith
 
-pub lighter-went : (ways : Ways) (commits : Bool) (n m : ℕ) (found : Found) (s : Step) (did : Bool) → n ≤ file_limit → m ≤ file_limit → Fits n m s
-    → IsAnswer (call_at s) (reply.Went did) → weight (went_at ways commits n m found s did) < weight s
-lighter-went ways commits n m found (Undoing at end locks th) did fn fm f a =
+pub lighter-done : (ways : Ways) (commits : Bool) (n m : ℕ) (found : Found) (s : Step) (did : Bool) → n ≤ file_limit → m ≤ file_limit → Fits n m s
+    → IsAnswer (call_at s) (reply.Done did) → weight (done_at ways commits n m found s did) < weight s
+lighter-done ways commits n m found (Undoing at end locks th) did fn fm f a =
     let few = count-few n m th fn fm in let lt = f.0 in let le = f.1 in under-undoing (weight (Undoing at end locks th)) (at + 1) end locks th (omega (arith, few, le)) (omega (arith, few, le, lt))
-lighter-went ways commits n m found (Placing at th) did fn fm f a =
+lighter-done ways commits n m found (Placing at th) did fn fm f a =
     let few = count-few n m th fn fm in let lt = f.0 in under-placing ways (weight (Placing at th)) (at + 1) (count_at n m th) th (omega (arith, few, lt))
-lighter-went ways commits n m found (Removing at th) did fn fm f a = omega arith
-lighter-went ways commits n m found (Extending at th) did fn fm f a = omega arith
-lighter-went ways commits n m found (Discarding at th) did fn fm f a =
+lighter-done ways commits n m found (Removing at th) did fn fm f a = omega arith
+lighter-done ways commits n m found (Extending at th) did fn fm f a = omega arith
+lighter-done ways commits n m found (Discarding at th) did fn fm f a =
     let few = count-few n m th fn fm in let lt = f.0 in under-placing ways (weight (Discarding at th)) (at + 1) (count_at n m th) th (omega (arith, few, lt))
-lighter-went ways commits n m found (Unlocking at end th) did fn fm f a =
+lighter-done ways commits n m found (Unlocking at end th) did fn fm f a =
     let few = count-few n m th fn fm in let lt = f.0 in let le = f.1 in under-unlocking (weight (Unlocking at end th)) (at + 1) end th (omega (arith, few, le)) (omega (arith, few, le, lt))
-lighter-went ways commits n m found (Erasing th) did fn fm f a = lighter-closed found th
-lighter-went ways commits n m found (Clearing x) did fn fm f a = of-if (Under (weight (Clearing x))) commits Preparing _ (λ e. omega arith) (λ e. omega arith)
-lighter-went ways commits n m found Preparing did fn fm f a = omega arith
-lighter-went ways commits n m found Publishing true fn fm f a = under-locking (weight Publishing) 0 n (omega arith)
-lighter-went ways commits n m found Publishing false fn fm f a = omega arith
-lighter-went ways commits n m found (Locking at) true fn fm f a = under-locking (weight (Locking at)) (at + 1) n (omega (arith, f, fn))
-lighter-went ways commits n m found (Locking at) false fn fm f a = under-unlocking (weight (Locking at)) 0 at (Answer (end.Busy at)) (omega (arith, f, fn)) (omega (arith, f, fn))
-lighter-went ways commits n m found (Staging at) did fn fm f a = under-staging (weight (Staging at)) (at + 1) n (omega (arith, f, fn))
-lighter-went ways commits n m found Deciding did fn fm f a = omega arith
-lighter-went ways commits n m found Committing true fn fm f a = under-placing ways (weight Committing) 0 n (Answer end.Done) (omega arith)
-lighter-went ways commits n m found Committing false fn fm f a = omega arith
-lighter-went ways commits n m found (Releasing e) did fn fm f a = omega arith
-lighter-went ways commits n m found Looking did fn fm f a = absurd a
-lighter-went ways commits n m found (Loading at) did fn fm f a = absurd a
-lighter-went ways commits n m found (Testing at) did fn fm f a = absurd a
-lighter-went ways commits n m found Checking did fn fm f a = absurd a
-lighter-went ways commits n m found (Ended e) did fn fm f a = absurd a
+lighter-done ways commits n m found (Erasing th) did fn fm f a = lighter-closed found th
+lighter-done ways commits n m found (Clearing x) did fn fm f a = of-if (Under (weight (Clearing x))) commits Preparing _ (λ e. omega arith) (λ e. omega arith)
+lighter-done ways commits n m found Preparing did fn fm f a = omega arith
+lighter-done ways commits n m found Publishing true fn fm f a = under-locking (weight Publishing) 0 n (omega arith)
+lighter-done ways commits n m found Publishing false fn fm f a = omega arith
+lighter-done ways commits n m found (Locking at) true fn fm f a = under-locking (weight (Locking at)) (at + 1) n (omega (arith, f, fn))
+lighter-done ways commits n m found (Locking at) false fn fm f a = under-unlocking (weight (Locking at)) 0 at (Answer (end.Busy at)) (omega (arith, f, fn)) (omega (arith, f, fn))
+lighter-done ways commits n m found (Staging at) did fn fm f a = under-staging (weight (Staging at)) (at + 1) n (omega (arith, f, fn))
+lighter-done ways commits n m found Deciding did fn fm f a = omega arith
+lighter-done ways commits n m found Committing true fn fm f a = under-placing ways (weight Committing) 0 n (Answer end.Done) (omega arith)
+lighter-done ways commits n m found Committing false fn fm f a = omega arith
+lighter-done ways commits n m found (Releasing e) did fn fm f a = omega arith
+lighter-done ways commits n m found Looking did fn fm f a = absurd a
+lighter-done ways commits n m found (Loading at) did fn fm f a = absurd a
+lighter-done ways commits n m found (Testing at) did fn fm f a = absurd a
+lighter-done ways commits n m found Checking did fn fm f a = absurd a
+lighter-done ways commits n m found (Ended e) did fn fm f a = absurd a
 
 pub lighter-fault : (s : Step) → IsAnswer (call_at s) reply.Fault → weight (faulted_at s) < weight s
 lighter-fault Committing a = omega arith
@@ -229,19 +229,19 @@ Loads (Loading at) = Unit {0}
 Loads Checking = Unit {0}
 Loads s = ⊥
 
-pub lighter-long : (n m : ℕ) (s : Step) (k : ℕ) → n ≤ file_limit → Fits n m s → Loads s → weight (long_at n s k) < weight s
-lighter-long n m Looking k fn f l = omega arith
-lighter-long n m (Testing at) k fn f l = omega arith
-lighter-long n m (Loading at) k fn f l = under-unlocking (weight (Loading at)) 0 n (Answer (end.TooLarge at k)) fn (omega arith)
-lighter-long n m Checking k fn f l = omega arith
-lighter-long n m s k fn f l = absurd l
+pub lighter-too-large : (n m : ℕ) (s : Step) (k : ℕ) → n ≤ file_limit → Fits n m s → Loads s → weight (too_large_at n s k) < weight s
+lighter-too-large n m Looking k fn f l = omega arith
+lighter-too-large n m (Testing at) k fn f l = omega arith
+lighter-too-large n m (Loading at) k fn f l = under-unlocking (weight (Loading at)) 0 n (Answer (end.TooLarge at k)) fn (omega arith)
+lighter-too-large n m Checking k fn f l = omega arith
+lighter-too-large n m s k fn f l = absurd l
 
-pub lighter-short : (n m : ℕ) (s : Step) → n ≤ file_limit → Fits n m s → Loads s → weight (short_at n s) < weight s
-lighter-short n m Looking fn f l = omega arith
-lighter-short n m (Testing at) fn f l = omega arith
-lighter-short n m (Loading at) fn f l = under-unlocking (weight (Loading at)) 0 n (Answer end.NoMemory) fn (omega arith)
-lighter-short n m Checking fn f l = omega arith
-lighter-short n m s fn f l = absurd l
+pub lighter-no-memory : (n m : ℕ) (s : Step) → n ≤ file_limit → Fits n m s → Loads s → weight (no_memory_at n s) < weight s
+lighter-no-memory n m Looking fn f l = omega arith
+lighter-no-memory n m (Testing at) fn f l = omega arith
+lighter-no-memory n m (Loading at) fn f l = under-unlocking (weight (Loading at)) 0 n (Answer end.NoMemory) fn (omega arith)
+lighter-no-memory n m Checking fn f l = omega arith
+lighter-no-memory n m s fn f l = absurd l
 
 -- an end that isn't settled wasn't before
 abbrev Kept : Then → Step → Type 0
@@ -258,36 +258,36 @@ kept-closed : (found : Found) (th : Then) → Kept th (closed_at found th)
 kept-closed found GoOn = refl
 kept-closed found (Answer e) = refl
 
-pub settled-went : (ways : Ways) (commits : Bool) (n m : ℕ) (found : Found) (s : Step) (did : Bool) → IsAnswer (call_at s) (reply.Went did)
-    → is_settled (went_at ways commits n m found s did) ≡ false → is_settled s ≡ false
-settled-went ways commits n m found (Undoing at end locks th) did a e = sym (of-undoing (Kept th) (at + 1) end locks th (λ x. refl) (λ x. refl) refl) ∙ e
-settled-went ways commits n m found (Placing at th) did a e = kept-placing ways (at + 1) (count_at n m th) th e
-settled-went ways commits n m found (Removing at th) did a e = e
-settled-went ways commits n m found (Extending at th) did a e = e
-settled-went ways commits n m found (Discarding at th) did a e = kept-placing ways (at + 1) (count_at n m th) th e
-settled-went ways commits n m found (Unlocking at end th) did a e = sym (of-unlocking (Kept th) (at + 1) end th (λ x. refl) refl) ∙ e
-settled-went ways commits n m found (Erasing th) did a e = sym (kept-closed found th) ∙ e
-settled-went ways commits n m found (Releasing x) did a e = e
-settled-went ways commits n m found Checking did a e = absurd a
-settled-went ways commits n m found (Ended x) did a e = absurd a
-settled-went ways commits n m found s did a e = refl
+pub settled-done : (ways : Ways) (commits : Bool) (n m : ℕ) (found : Found) (s : Step) (did : Bool) → IsAnswer (call_at s) (reply.Done did)
+    → is_settled (done_at ways commits n m found s did) ≡ false → is_settled s ≡ false
+settled-done ways commits n m found (Undoing at end locks th) did a e = sym (of-undoing (Kept th) (at + 1) end locks th (λ x. refl) (λ x. refl) refl) ∙ e
+settled-done ways commits n m found (Placing at th) did a e = kept-placing ways (at + 1) (count_at n m th) th e
+settled-done ways commits n m found (Removing at th) did a e = e
+settled-done ways commits n m found (Extending at th) did a e = e
+settled-done ways commits n m found (Discarding at th) did a e = kept-placing ways (at + 1) (count_at n m th) th e
+settled-done ways commits n m found (Unlocking at end th) did a e = sym (of-unlocking (Kept th) (at + 1) end th (λ x. refl) refl) ∙ e
+settled-done ways commits n m found (Erasing th) did a e = sym (kept-closed found th) ∙ e
+settled-done ways commits n m found (Releasing x) did a e = e
+settled-done ways commits n m found Checking did a e = absurd a
+settled-done ways commits n m found (Ended x) did a e = absurd a
+settled-done ways commits n m found s did a e = refl
 
 pub settled-fault : (s : Step) → is_settled (faulted_at s) ≡ true
 settled-fault Committing = refl
 settled-fault s = refl
 
-pub settled-long : (n : ℕ) (s : Step) (k : ℕ) → is_settled (long_at n s k) ≡ true
-settled-long n (Loading at) k = of-unlocking (Kept (Answer (end.TooLarge at k))) 0 n (Answer (end.TooLarge at k)) (λ x. refl) refl
-settled-long n Looking k = refl
-settled-long n (Testing at) k = refl
-settled-long n s k = refl
+pub settled-too-large : (n : ℕ) (s : Step) (k : ℕ) → is_settled (too_large_at n s k) ≡ true
+settled-too-large n (Loading at) k = of-unlocking (Kept (Answer (end.TooLarge at k))) 0 n (Answer (end.TooLarge at k)) (λ x. refl) refl
+settled-too-large n Looking k = refl
+settled-too-large n (Testing at) k = refl
+settled-too-large n s k = refl
 
-pub settled-short : (n : ℕ) (s : Step) → Loads s → is_settled (short_at n s) ≡ false → is_settled s ≡ false
-settled-short n Looking l e = refl
-settled-short n (Testing at) l e = refl
-settled-short n (Loading at) l e = refl
-settled-short n Checking l e = e
-settled-short n s l e = absurd l
+pub settled-no-memory : (n : ℕ) (s : Step) → Loads s → is_settled (no_memory_at n s) ≡ false → is_settled s ≡ false
+settled-no-memory n Looking l e = refl
+settled-no-memory n (Testing at) l e = refl
+settled-no-memory n (Loading at) l e = refl
+settled-no-memory n Checking l e = e
+settled-no-memory n s l e = absurd l
 
 -- an end is caused as it was
 module _ (before after : ℕ) where
@@ -308,46 +308,46 @@ module _ (before after : ℕ) where
   caused-closed found GoOn c = tt
   caused-closed found (Answer e) c = c
 
-  pub caused-went : (ways : Ways) (commits : Bool) (n m : ℕ) (found : Found) (s : Step) (did : Bool) → IsAnswer (call_at s) (reply.Went did)
-      → Caused before after s → Caused before after (went_at ways commits n m found s did)
-  caused-went ways commits n m found (Undoing at end locks th) did a c = caused-undoing (at + 1) end locks th c
-  caused-went ways commits n m found (Placing at th) did a c = caused-placing ways (at + 1) (count_at n m th) th c
-  caused-went ways commits n m found (Removing at th) did a c = c
-  caused-went ways commits n m found (Extending at th) did a c = c
-  caused-went ways commits n m found (Discarding at th) did a c = caused-placing ways (at + 1) (count_at n m th) th c
-  caused-went ways commits n m found (Unlocking at end th) did a c = caused-unlocking (at + 1) end th c
-  caused-went ways commits n m found (Erasing th) did a c = caused-closed found th c
-  caused-went ways commits n m found (Clearing x) did a c = of-if (Caused before after) commits Preparing _ (λ e. tt) (λ e. tt)
-  caused-went ways commits n m found Preparing did a c = tt
-  caused-went ways commits n m found Publishing true a c = of-locking (Caused before after) 0 n (λ l. tt) tt
-  caused-went ways commits n m found Publishing false a c = tt
-  caused-went ways commits n m found (Locking at) true a c = of-locking (Caused before after) (at + 1) n (λ l. tt) tt
-  caused-went ways commits n m found (Locking at) false a c = caused-unlocking 0 at (Answer (end.Busy at)) tt
-  caused-went ways commits n m found (Staging at) did a c = of-staging (Caused before after) (at + 1) n (λ l. tt) tt
-  caused-went ways commits n m found Deciding did a c = tt
-  caused-went ways commits n m found Committing true a c = caused-placing ways 0 n (Answer end.Done) tt
-  caused-went ways commits n m found Committing false a c = tt
-  caused-went ways commits n m found (Releasing e) did a c = c
-  caused-went ways commits n m found Looking did a c = absurd a
-  caused-went ways commits n m found (Loading at) did a c = absurd a
-  caused-went ways commits n m found (Testing at) did a c = absurd a
-  caused-went ways commits n m found Checking did a c = absurd a
-  caused-went ways commits n m found (Ended e) did a c = absurd a
+  pub caused-done : (ways : Ways) (commits : Bool) (n m : ℕ) (found : Found) (s : Step) (did : Bool) → IsAnswer (call_at s) (reply.Done did)
+      → Caused before after s → Caused before after (done_at ways commits n m found s did)
+  caused-done ways commits n m found (Undoing at end locks th) did a c = caused-undoing (at + 1) end locks th c
+  caused-done ways commits n m found (Placing at th) did a c = caused-placing ways (at + 1) (count_at n m th) th c
+  caused-done ways commits n m found (Removing at th) did a c = c
+  caused-done ways commits n m found (Extending at th) did a c = c
+  caused-done ways commits n m found (Discarding at th) did a c = caused-placing ways (at + 1) (count_at n m th) th c
+  caused-done ways commits n m found (Unlocking at end th) did a c = caused-unlocking (at + 1) end th c
+  caused-done ways commits n m found (Erasing th) did a c = caused-closed found th c
+  caused-done ways commits n m found (Clearing x) did a c = of-if (Caused before after) commits Preparing _ (λ e. tt) (λ e. tt)
+  caused-done ways commits n m found Preparing did a c = tt
+  caused-done ways commits n m found Publishing true a c = of-locking (Caused before after) 0 n (λ l. tt) tt
+  caused-done ways commits n m found Publishing false a c = tt
+  caused-done ways commits n m found (Locking at) true a c = of-locking (Caused before after) (at + 1) n (λ l. tt) tt
+  caused-done ways commits n m found (Locking at) false a c = caused-unlocking 0 at (Answer (end.Busy at)) tt
+  caused-done ways commits n m found (Staging at) did a c = of-staging (Caused before after) (at + 1) n (λ l. tt) tt
+  caused-done ways commits n m found Deciding did a c = tt
+  caused-done ways commits n m found Committing true a c = caused-placing ways 0 n (Answer end.Done) tt
+  caused-done ways commits n m found Committing false a c = tt
+  caused-done ways commits n m found (Releasing e) did a c = c
+  caused-done ways commits n m found Looking did a c = absurd a
+  caused-done ways commits n m found (Loading at) did a c = absurd a
+  caused-done ways commits n m found (Testing at) did a c = absurd a
+  caused-done ways commits n m found Checking did a c = absurd a
+  caused-done ways commits n m found (Ended e) did a c = absurd a
 
   pub caused-fault : (s : Step) → Rose before after → Caused before after (faulted_at s)
   caused-fault Committing r = r
   caused-fault s r = r
 
-  pub caused-long : (n : ℕ) (s : Step) (k : ℕ) → Loads s → load_limit < k → Caused before after s → Caused before after (long_at n s k)
-  caused-long n Looking k l past c = past
-  caused-long n (Testing at) k l past c = past
-  caused-long n (Loading at) k l past c = caused-unlocking 0 n (Answer (end.TooLarge at k)) past
-  caused-long n Checking k l past c = c
-  caused-long n s k l past c = absurd l
+  pub caused-too-large : (n : ℕ) (s : Step) (k : ℕ) → Loads s → load_limit < k → Caused before after s → Caused before after (too_large_at n s k)
+  caused-too-large n Looking k l past c = past
+  caused-too-large n (Testing at) k l past c = past
+  caused-too-large n (Loading at) k l past c = caused-unlocking 0 n (Answer (end.TooLarge at k)) past
+  caused-too-large n Checking k l past c = c
+  caused-too-large n s k l past c = absurd l
 
-  pub caused-short : (n : ℕ) (s : Step) → Loads s → Caused before after s → Caused before after (short_at n s)
-  caused-short n Looking l c = tt
-  caused-short n (Testing at) l c = tt
-  caused-short n (Loading at) l c = caused-unlocking 0 n (Answer end.NoMemory) tt
-  caused-short n Checking l c = c
-  caused-short n s l c = absurd l
+  pub caused-no-memory : (n : ℕ) (s : Step) → Loads s → Caused before after s → Caused before after (no_memory_at n s)
+  caused-no-memory n Looking l c = tt
+  caused-no-memory n (Testing at) l c = tt
+  caused-no-memory n (Loading at) l c = caused-unlocking 0 n (Answer end.NoMemory) tt
+  caused-no-memory n Checking l c = c
+  caused-no-memory n s l c = absurd l

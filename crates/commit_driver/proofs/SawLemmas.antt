@@ -48,7 +48,7 @@ use Rattle.commit_driver.specs.declared.place.Place.{Place}
 use Rattle.commit_driver.specs.Steps.{unlocking_at, tested_at}
 use Rattle.commit_driver.specs.Judging.{JudgesSo}
 use Rattle.commit_driver.specs.Places.{nth, files_of, entries_of, tail_at, tails_for, file_way, file_ways, part_of, parts_of, ways_in, ways_of, nth_item, decided_entries, decided_record, outcome_way, passed_as, made_by, made_from, outcome_content, state_as, end_as, own_record, MayHide, WantedAs, IsMade, Holds, IsPlan, IsPlace, StandsFor}
-use Rattle.commit_driver.specs.Answers.{mending_at, judged_at, Finds, PassedSo, at_step, LooksAt, Looks, TakesAll, IsCommitOf, Follows}
+use Rattle.commit_driver.specs.Answers.{closing_at, judged_at, Finds, PassedSo, at_step, LooksAt, Looks, TakesAll, IsCommitOf, Follows}
 use Rattle.commit_driver.proofs.StateLemmas.{drop-some, length-map, none-left, loaded-by, made-more, placing-is, undoing-is, unlocking-all, staging-is}
 use Rattle.commit_driver.proofs.WayLemmas.{way-found, ways-by-name, decided-are}
 use Rattle.commit_driver.proofs.NextLemmas.{names-long, files-long, edits-long}
@@ -84,8 +84,8 @@ none-written bytes none = go (record_of bytes) refl
     go (Some r) is = absurd (none r (record_of-is bytes r is))
 
 -- a record that was found is closed from its first step on
-mending-is : (j : Job) (hidden : Ending) (made : List Made) (r : Record) (seen : Option (List ℕ)) (files : List (Option (List ℕ))) → state_as j hidden made r seen files (mending_at r) ≡ mending r
-mending-is j hidden made r seen files = elim (cases_Bool (is_go r)) [
+closing-is : (j : Job) (hidden : Ending) (made : List Made) (r : Record) (seen : Option (List ℕ)) (files : List (Option (List ℕ))) → state_as j hidden made r seen files (closing_at r) ≡ mending r
+closing-is j hidden made r seen files = elim (cases_Bool (is_go r)) [
   | inl y ↦ rw y (placing-is j hidden made r seen files (ways_in r.entries []) 0 (length r.entries) then.GoOn (sym (names-long r)) (λ at l. way-found r.entries at))
   | inr nay ↦ rw nay (
       let le : length r.entries ≤ length (names_of r) = omega (arith, names-long r) in
@@ -93,8 +93,8 @@ mending-is j hidden made r seen files = elim (cases_Bool (is_go r)) [
       undoing-is j hidden made r seen files 0 (length r.entries) (length r.entries) then.GoOn le le ∙ ap (λ (ns : List (List ℕ)). undoing r ns ns GoOn) all)
 ]
 
-holds-mending : (j : Job) (plan : Plan) (place : Place) (made : List Made) (p : IsPlan j plan) (q : IsPlace plan place) (r : Record) → Holds j made place.files place.ways place.go (mending_at r)
-holds-mending j plan place made p q r =
+holds-closing : (j : Job) (plan : Plan) (place : Place) (made : List Made) (p : IsPlan j plan) (q : IsPlace plan place) (r : Record) → Holds j made place.files place.ways place.go (closing_at r)
+holds-closing j plan place made p q r =
     of-if (Holds j made place.files place.ways place.go) (is_go r) _ _
     (λ e. holds-placing j plan place NoMemory made p q (ways_in r.entries []) 0 (length r.entries) then.GoOn tt)
     (λ e. holds-undoing j plan place NoMemory made p q 0 (length r.entries) (length r.entries) then.GoOn)
@@ -123,7 +123,7 @@ module _ (j : Job) (plan : Plan) (old : Place) (p : IsPlan j plan) (q : IsPlace 
       subst (λ (x : Place). Follows j x (looked j (Some bytes))) (sym is) (
         mending r,
         inl (sym (ap record_seen (record_of-written bytes r finds.0))),
-        record { hidden = hidden; wanted = wanted; made = made; holds = holds-mending j plan old made p q r; is = mending-is j hidden made r old.seen old.files },
+        record { hidden = hidden; wanted = wanted; made = made; holds = holds-closing j plan old made p q r; is = closing-is j hidden made r old.seen old.files },
       )
   look-found bytes (Err e) now finds is = subst (λ (x : Place). Follows j x (looked j (Some bytes))) (sym is) (look-end bytes e finds)
 

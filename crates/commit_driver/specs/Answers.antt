@@ -37,32 +37,32 @@ use Rattle.commit_driver.specs.declared.answers.Reply.{Reply}
 use Rattle.commit_driver.specs.declared.answers.Reply.TheVariants as reply
 use Rattle.commit_driver.specs.declared.place.Plan.{Plan}
 use Rattle.commit_driver.specs.declared.place.Place.{Place}
-use Rattle.commit_driver.specs.Steps.{passed_at, placing_at, recovered_at, tested_at, undoing_at, unlocking_at, staging_at, faulted_at, long_at, short_at, went_at, weight}
+use Rattle.commit_driver.specs.Steps.{passed_at, placing_at, recovered_at, tested_at, undoing_at, unlocking_at, staging_at, faulted_at, too_large_at, no_memory_at, done_at, weight}
 use Rattle.commit_driver.specs.Judging.{Judges, TroubleFits}
 use Rattle.commit_driver.specs.Places.{files_of, entries_of, file_ways, tails_for, parts_of, ways_in, ways_of, decided_record, IsPlan, IsPlace, StandsFor}
 
 -- the answer as the machine has it
 abbrev pub reply_as : Reply → machine.Reply
-reply_as (reply.Went b) = machine.Went b
-reply_as (reply.Saw c) = machine.Saw c
-reply_as (reply.Long n) = machine.Long n
-reply_as reply.Short = machine.Short
+reply_as (reply.Done b) = machine.Went b
+reply_as (reply.Loaded c) = machine.Saw c
+reply_as (reply.TooLarge n) = machine.Long n
+reply_as reply.NoMemory = machine.Short
 reply_as reply.Fault = machine.Fault
 
 -- a call answers so
 abbrev pub IsAnswer : Option Call → Reply → Type 0
 IsAnswer None r = ⊥
-IsAnswer (Some (call.Load x)) (reply.Went b) = ⊥
+IsAnswer (Some (call.Load x)) (reply.Done b) = ⊥
 IsAnswer (Some (call.Load x)) r = Unit {0}
-IsAnswer (Some call.Release) (reply.Went b) = Unit {0}
+IsAnswer (Some call.Release) (reply.Done b) = Unit {0}
 IsAnswer (Some call.Release) r = ⊥
-IsAnswer (Some c) (reply.Went b) = Unit {0}
+IsAnswer (Some c) (reply.Done b) = Unit {0}
 IsAnswer (Some c) reply.Fault = Unit {0}
 IsAnswer (Some c) r = ⊥
 
 -- the first step of closing a record that was found
-abbrev pub mending_at : Record → Step
-mending_at r = if is_go r then placing_at (ways_in r.entries []) 0 (length r.entries) GoOn else undoing_at 0 (length r.entries) (length r.entries) GoOn
+abbrev pub closing_at : Record → Step
+closing_at r = if is_go r then placing_at (ways_in r.entries []) 0 (length r.entries) GoOn else undoing_at 0 (length r.entries) (length r.entries) GoOn
 
 -- the step once all of n files are loaded and judged
 abbrev pub judged_at : ℕ → Result Unit Trouble → Step
@@ -88,7 +88,7 @@ abbrev pub at_step : Place → Step → Place
 at_step place s = record place { step = s }
 
 abbrev pub LooksAt : Result Found End → Place → Place → Type 0
-LooksAt (Ok found) old now = now ≡ record old { step = mending_at found.value; found = found.value; found_staged = found.staged }
+LooksAt (Ok found) old now = now ≡ record old { step = closing_at found.value; found = found.value; found_staged = found.staged }
 LooksAt (Err e) old now = now ≡ at_step old (step.Releasing e)
 
 abbrev pub Looks : Plan → Option (List ℕ) → Place → Place → Type 0
@@ -110,7 +110,7 @@ pub record WritesGo (plan : Plan) (tails : List (Option ℕ)) (judged : Result U
 
 -- What is made of the files once all are loaded. Then it is settled how they come to be, the text of the decision is written, and of a file
 -- that is extended no more is held than is staged for it.
-pub record Settles (plan : Plan) (changes : List Change) (base : List (List ℕ)) (old : Place) (result : Result Unit Trouble) (now : Place) : Type 0 where
+pub record MakesFiles (plan : Plan) (changes : List Change) (base : List (List ℕ)) (old : Place) (result : Result Unit Trouble) (now : Place) : Type 0 where
   pub made : List (Option (List ℕ))
   pub judged : Judges changes base (names_of plan.value) old.files result made
   pub fits : TroubleFits (files_of plan) result
@@ -127,7 +127,7 @@ pub record Settles (plan : Plan) (changes : List Change) (base : List (List ℕ)
 pub record TakesAll (plan : Plan) (files : List (Option (List ℕ))) (changes : List Change) (base : List (List ℕ)) (old now : Place) : Type 0 where
   pub result : Result Unit Trouble
   pub place : Place
-  pub settles : Settles plan changes base (record old { files = files }) result place
+  pub settles : MakesFiles plan changes base (record old { files = files }) result place
   pub is : now ≡ record place { step = judged_at (files_of plan) result }
 
 abbrev pub Takes : Plan → ℕ → Option (List ℕ) → List Change → List (List ℕ) → Place → Place → Type 0
@@ -135,19 +135,19 @@ Takes plan at file changes base old now =
     ((at + 1 < files_of plan) × (now ≡ record old { step = step.Loading (at + 1); files = slice_set old.files at file }))
     ⊎ ((files_of plan ≤ at + 1) × TakesAll plan (slice_set old.files at file) changes base old now)
 
-abbrev pub SawSo : Plan → Option (List ℕ) → List Change → List (List ℕ) → Place → Step → Place → Type 0
-SawSo plan file changes base old step.Looking now = Looks plan file old now
-SawSo plan file changes base old (step.Loading at) now = Takes plan at file changes base old now
-SawSo plan file changes base old (step.Testing at) now = now ≡ record old { step = tested_at (ways_of old) (entries_of old) at (is_some file); seen = file }
-SawSo plan file changes base old step.Checking now = (p : Passed) × PassedSo old.go file p × (now ≡ at_step old (step.Releasing (end.Failed p)))
-SawSo plan file changes base old s now = now ≡ at_step old (step.Releasing (end.Failed (passed_at s)))
+abbrev pub LoadedSo : Plan → Option (List ℕ) → List Change → List (List ℕ) → Place → Step → Place → Type 0
+LoadedSo plan file changes base old step.Looking now = Looks plan file old now
+LoadedSo plan file changes base old (step.Loading at) now = Takes plan at file changes base old now
+LoadedSo plan file changes base old (step.Testing at) now = now ≡ record old { step = tested_at (ways_of old) (entries_of old) at (is_some file); seen = file }
+LoadedSo plan file changes base old step.Checking now = (p : Passed) × PassedSo old.go file p × (now ≡ at_step old (step.Releasing (end.Failed p)))
+LoadedSo plan file changes base old s now = now ≡ at_step old (step.Releasing (end.Failed (passed_at s)))
 
 -- the place after an answer, by numbers
 abbrev pub Answered : Plan → Reply → List Change → List (List ℕ) → Place → Place → Type 0
-Answered plan (reply.Went did) changes base old now = now ≡ at_step old (went_at (ways_of old) plan.commits (files_of plan) (entries_of old) (recovered_at old.found) old.step did)
-Answered plan (reply.Saw file) changes base old now = SawSo plan file changes base old old.step now
-Answered plan (reply.Long n) changes base old now = now ≡ at_step old (long_at (files_of plan) old.step n)
-Answered plan reply.Short changes base old now = now ≡ at_step old (short_at (files_of plan) old.step)
+Answered plan (reply.Done did) changes base old now = now ≡ at_step old (done_at (ways_of old) plan.commits (files_of plan) (entries_of old) (recovered_at old.found) old.step did)
+Answered plan (reply.Loaded file) changes base old now = LoadedSo plan file changes base old old.step now
+Answered plan (reply.TooLarge n) changes base old now = now ≡ at_step old (too_large_at (files_of plan) old.step n)
+Answered plan reply.NoMemory changes base old now = now ≡ at_step old (no_memory_at (files_of plan) old.step)
 Answered plan reply.Fault changes base old now = now ≡ at_step old (faulted_at old.step)
 
 -- the job is the commit of these changes, or a recovery
@@ -181,9 +181,9 @@ is_settled (step.Releasing e) = settled_end e
 is_settled (step.Ended e) = settled_end e
 is_settled s = false
 
-abbrev pub is_long : Reply → Bool
-is_long (reply.Long n) = true
-is_long r = false
+abbrev pub is_too_large : Reply → Bool
+is_too_large (reply.TooLarge n) = true
+is_too_large r = false
 
 -- A fault is told only if the count of disk faults rose from one number to another, and too many bytes only past the limit.
 abbrev pub EndCaused : ℕ → ℕ → End → Type 0
@@ -212,18 +212,18 @@ Caused before now s = Unit {0}
 
 abbrev pub ReplyCaused : ℕ → ℕ → Reply → Type 0
 ReplyCaused before now reply.Fault = Rose before now
-ReplyCaused before now (reply.Long n) = load_limit < n
+ReplyCaused before now (reply.TooLarge n) = load_limit < n
 ReplyCaused before now r = Unit {0}
 
 -- the answer is what the load of the last file saw, which the changes are made of
 abbrev pub IsLastLoad : Plan → Step → Reply → Type 0
-IsLastLoad plan (step.Loading at) (reply.Saw file) = files_of plan ≤ at + 1
+IsLastLoad plan (step.Loading at) (reply.Loaded file) = files_of plan ≤ at + 1
 IsLastLoad plan s r = ⊥
 
 -- The place after an answer: its state is the machine's, it has less to do, and its end is settled and caused as the answer has it.
 pub record IsAfter (plan : Plan) (r : Reply) (changes : List Change) (base : List (List ℕ)) (old now : Place) : Type 0 where
   pub place : IsPlace plan now
   pub lighter : weight now.step < weight old.step
-  pub settled : is_settled now.step ≡ false → (is_settled old.step ≡ false) × (is_long r ≡ false)
+  pub settled : is_settled now.step ≡ false → (is_settled old.step ≡ false) × (is_too_large r ≡ false)
   pub caused : (before after : ℕ) → Caused before after old.step → ReplyCaused before after r → Caused before after now.step
   pub follows : (j : Job) (s : State) → IsPlan j plan → (IsLastLoad plan old.step r → (j.edits ≡ None) ⊎ IsCommitOf j changes base) → StandsFor j old s → Follows j now (after_reply j s (reply_as r))

@@ -183,18 +183,18 @@ faulted_at Committing = Checking
 faulted_at s = Releasing (Failed (passed_at s))
 
 -- after a load that met `length` bytes, if there are n files
-abbrev pub long_at : ℕ → Step → ℕ → Step
-long_at n Looking length = Releasing (RecordTooLarge length)
-long_at n (Testing at) length = Releasing (StagedTooLarge at length)
-long_at n (Loading at) length = unlocking_at 0 n (Answer (TooLarge at length))
-long_at n s length = Releasing (Failed (passed_at s))
+abbrev pub too_large_at : ℕ → Step → ℕ → Step
+too_large_at n Looking length = Releasing (RecordTooLarge length)
+too_large_at n (Testing at) length = Releasing (StagedTooLarge at length)
+too_large_at n (Loading at) length = unlocking_at 0 n (Answer (TooLarge at length))
+too_large_at n s length = Releasing (Failed (passed_at s))
 
 -- after a load that ran out of memory
-abbrev pub short_at : ℕ → Step → Step
-short_at n Looking = Releasing NoMemory
-short_at n (Testing at) = Releasing NoMemory
-short_at n (Loading at) = unlocking_at 0 n (Answer NoMemory)
-short_at n s = Releasing (Failed (passed_at s))
+abbrev pub no_memory_at : ℕ → Step → Step
+no_memory_at n Looking = Releasing NoMemory
+no_memory_at n (Testing at) = Releasing NoMemory
+no_memory_at n (Loading at) = unlocking_at 0 n (Answer NoMemory)
+no_memory_at n s = Releasing (Failed (passed_at s))
 
 -- after a look for the staged file of a removal or an extension, if m entries were found
 abbrev pub tested_at : Ways → ℕ → ℕ → Bool → Step
@@ -211,26 +211,26 @@ closed_at found GoOn = Clearing found
 closed_at found (Answer e) = Releasing e
 
 -- After a call that went so: in a commit or not, of n files, if a record of m entries was found that came to this.
-abbrev pub went_at : Ways → Bool → ℕ → ℕ → Found → Step → Bool → Step
-went_at ways commits n m found (Undoing at end locks th) did = undoing_at (at + 1) end locks th
-went_at ways commits n m found (Placing at th) did = placing_at ways (at + 1) (count_at n m th) th
-went_at ways commits n m found (Removing at th) did = Discarding at th
-went_at ways commits n m found (Extending at th) did = Discarding at th
-went_at ways commits n m found (Discarding at th) did = placing_at ways (at + 1) (count_at n m th) th
-went_at ways commits n m found (Unlocking at end th) did = unlocking_at (at + 1) end th
-went_at ways commits n m found (Erasing th) did = closed_at found th
-went_at ways commits n m found (Clearing cleared) did = if commits then Preparing else Releasing (Recovered cleared)
-went_at ways commits n m found Preparing did = Publishing
-went_at ways commits n m found Publishing true = locking_at 0 n
-went_at ways commits n m found Publishing false = Releasing NotARecord
-went_at ways commits n m found (Locking at) true = locking_at (at + 1) n
-went_at ways commits n m found (Locking at) false = unlocking_at 0 at (Answer (Busy at))
-went_at ways commits n m found (Staging at) did = staging_at (at + 1) n
-went_at ways commits n m found Deciding did = Committing
-went_at ways commits n m found Committing true = placing_at ways 0 n (Answer Done)
-went_at ways commits n m found Committing false = Releasing NotARecord
-went_at ways commits n m found (Releasing e) did = Ended e
-went_at ways commits n m found s did = Releasing (Failed (passed_at s))
+abbrev pub done_at : Ways → Bool → ℕ → ℕ → Found → Step → Bool → Step
+done_at ways commits n m found (Undoing at end locks th) did = undoing_at (at + 1) end locks th
+done_at ways commits n m found (Placing at th) did = placing_at ways (at + 1) (count_at n m th) th
+done_at ways commits n m found (Removing at th) did = Discarding at th
+done_at ways commits n m found (Extending at th) did = Discarding at th
+done_at ways commits n m found (Discarding at th) did = placing_at ways (at + 1) (count_at n m th) th
+done_at ways commits n m found (Unlocking at end th) did = unlocking_at (at + 1) end th
+done_at ways commits n m found (Erasing th) did = closed_at found th
+done_at ways commits n m found (Clearing cleared) did = if commits then Preparing else Releasing (Recovered cleared)
+done_at ways commits n m found Preparing did = Publishing
+done_at ways commits n m found Publishing true = locking_at 0 n
+done_at ways commits n m found Publishing false = Releasing NotARecord
+done_at ways commits n m found (Locking at) true = locking_at (at + 1) n
+done_at ways commits n m found (Locking at) false = unlocking_at 0 at (Answer (Busy at))
+done_at ways commits n m found (Staging at) did = staging_at (at + 1) n
+done_at ways commits n m found Deciding did = Committing
+done_at ways commits n m found Committing true = placing_at ways 0 n (Answer Done)
+done_at ways commits n m found Committing false = Releasing NotARecord
+done_at ways commits n m found (Releasing e) did = Ended e
+done_at ways commits n m found s did = Releasing (Failed (passed_at s))
 
 -- more than is left to do within a rank: three calls for each file, and one more
 abbrev pub round : ℕ

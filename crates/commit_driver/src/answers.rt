@@ -8,9 +8,9 @@ ghost use Rattle.commit_machine.specs.Records.{has, names_of};
 ghost use Rattle.folder_change.specs.Changes.{name_of};
 ghost use Rattle.commit_driver.specs.declared.step.Step.TheVariants as Step;
 ghost use Rattle.commit_record.specs.Format.{is_valid};
-ghost use Rattle.commit_driver.specs.Steps.{call_at, unlocking_at, undoing_at, place_at, known_at, placing_at, tested_at, locking_at, staging_at, count_at, recovered_at, closed_at, passed_end, passed_then, passed_at, faulted_at, long_at, short_at, went_at, Fits};
+ghost use Rattle.commit_driver.specs.Steps.{call_at, unlocking_at, undoing_at, place_at, known_at, placing_at, tested_at, locking_at, staging_at, count_at, recovered_at, closed_at, passed_end, passed_then, passed_at, faulted_at, too_large_at, no_memory_at, done_at, Fits};
 ghost use Rattle.commit_driver.specs.Places.{files_of, entries_of, ways_of, IsPlace, IsCounted};
-ghost use Rattle.commit_driver.specs.Answers.{Finds, PassedSo, Looks, WritesGo, Settles, Takes, SawSo, Answered, IsAnswer, IsAfter, mending_at, judged_at};
+ghost use Rattle.commit_driver.specs.Answers.{Finds, PassedSo, Looks, WritesGo, MakesFiles, Takes, LoadedSo, Answered, IsAnswer, IsAfter, closing_at, judged_at};
 
 use crate::decision::{decided, keep_parts, own_way, tails_for};
 use crate::judge::{Trouble, judge};
@@ -26,13 +26,13 @@ use std::alloc::Global;
 #[derive(Drop)]
 pub enum Reply {
     /// It went so: done or not, taken or not.
-    Went(bool),
+    Done(bool),
     /// This file was loaded.
-    Saw(Option<Text>),
+    Loaded(Option<Text>),
     /// A file of this number of bytes is too large to load.
-    Long(u64),
+    TooLarge(u64),
     /// A load ran out of memory.
-    Short,
+    NoMemory,
     /// The call failed.
     Fault,
 }
@@ -238,7 +238,7 @@ fn passed_at(step: Step) -> Passed
     }
 }
 
-fn fault(step: Step) -> Step
+fn after_fault(step: Step) -> Step
     ensures { result ≡ faulted_at step }
 {
     match step {
@@ -247,8 +247,8 @@ fn fault(step: Step) -> Step
     }
 }
 
-fn long(files: usize, step: Step, length: u64) -> Step
-    ensures { result ≡ long_at files step length }
+fn after_too_large(files: usize, step: Step, length: u64) -> Step
+    ensures { result ≡ too_large_at files step length }
 {
     match step {
         Step::Looking => Step::Releasing(End::RecordTooLarge(length)),
@@ -258,8 +258,8 @@ fn long(files: usize, step: Step, length: u64) -> Step
     }
 }
 
-fn short(files: usize, step: Step) -> Step
-    ensures { result ≡ short_at files step }
+fn after_no_memory(files: usize, step: Step) -> Step
+    ensures { result ≡ no_memory_at files step }
 {
     match step {
         Step::Looking | Step::Testing(_) => Step::Releasing(End::NoMemory),
@@ -269,10 +269,10 @@ fn short(files: usize, step: Step) -> Step
 }
 
 // The step after a call that is answered `did`, in a commit or not, of `files` files.
-fn went(commits: bool, files: usize, place: &Place, did: bool) -> Step
+fn after_done(commits: bool, files: usize, place: &Place, did: bool) -> Step
     requires fits { Fits files (entries_of place.now) place.now.step }
     requires files { files ≡ length place.now.files }
-    ensures { result ≡ went_at (ways_of place.now) commits files (entries_of place.now)
+    ensures { result ≡ done_at (ways_of place.now) commits files (entries_of place.now)
         (recovered_at place.now.found) place.now.step did }
 {
     match place.step {
@@ -332,8 +332,8 @@ fn read_found(alloc: Global, bytes: &[u8]) -> Result<Found, End>
 }
 
 // The first step of closing the record that was found.
-fn mending(place: &Place) -> Step
-    ensures { result ≡ mending_at place.now.found }
+fn closing(place: &Place) -> Step
+    ensures { result ≡ closing_at place.now.found }
 {
     if is_decided(&place.found) {
         placing(place, 0, Then::GoOn)
@@ -354,7 +354,7 @@ fn look(alloc: Global, plan: &Plan, place: &mut Place, file: Option<Text>)
             Ok(found) => {
                 place.found = found.value;
                 place.found_staged = found.staged;
-                place.step = mending(place);
+                place.step = closing(place);
             }
             Err(end) => place.step = Step::Releasing(end),
         },
@@ -426,7 +426,7 @@ fn write_decision(
 }
 
 // All files are loaded: what the changes make of them is judged, and what becomes of them settled.
-fn settle(
+fn make_files(
     alloc: Global,
     plan: &Plan,
     place: &mut Place,
@@ -437,7 +437,7 @@ fn settle(
     requires valid { is_valid plan.now.value ≡ true }
     requires named { All (λ c. has (names_of plan.now.value) (name_of c) ≡ true) changes.now }
     requires based { All (λ c. IsTrue (is_rewrite c) → IsSome base) changes.now }
-    ensures { Settles plan.now changes.now (base_list (option_copied base.entry)) place.old result place.new }
+    ensures { MakesFiles plan.now changes.now (base_list (option_copied base.entry)) place.old result place.new }
 {
     let entries = plan.value.entries.items();
     match tails_for(alloc, changes, entries, place.files.items()) {
@@ -471,13 +471,13 @@ fn take(
     if at + 1 < entries.len() {
         place.step = Step::Loading(at + 1);
     } else {
-        let result = settle(alloc, plan, place, changes, base);
+        let result = make_files(alloc, plan, place, changes, base);
         place.step = judged(entries.len(), result);
     }
 }
 
 // What a load saw.
-fn saw(
+fn after_loaded(
     alloc: Global,
     plan: &Plan,
     place: &mut Place,
@@ -489,7 +489,7 @@ fn saw(
     requires place { IsPlace plan.now place.old }
     requires named { All (λ c. has (names_of plan.now.value) (name_of c) ≡ true) changes.now }
     requires based { All (λ c. IsTrue (is_rewrite c) → IsSome base) changes.now }
-    ensures { SawSo plan.now file changes.now (base_list (option_copied base.entry))
+    ensures { LoadedSo plan.now file changes.now (base_list (option_copied base.entry))
         place.old place.old.step place.new }
 {
     match place.step {
@@ -526,13 +526,13 @@ fn answer(
     let files = plan.value.entries.items().len();
     let step = place.step;
     match reply {
-        Reply::Went(did) => {
-            place.step = went(plan.commits, files, place, did);
+        Reply::Done(did) => {
+            place.step = after_done(plan.commits, files, place, did);
         }
-        Reply::Saw(file) => saw(alloc, plan, place, file, changes, base),
-        Reply::Long(length) => place.step = long(files, step, length),
-        Reply::Short => place.step = short(files, step),
-        Reply::Fault => place.step = fault(step),
+        Reply::Loaded(file) => after_loaded(alloc, plan, place, file, changes, base),
+        Reply::TooLarge(length) => place.step = after_too_large(files, step, length),
+        Reply::NoMemory => place.step = after_no_memory(files, step),
+        Reply::Fault => place.step = after_fault(step),
     }
 }
 

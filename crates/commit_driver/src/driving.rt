@@ -28,10 +28,10 @@ fn loaded(answer: Result<LoadAnswer, LoadError>) -> Reply
     ensures { reply_as result ≡ load_reply answer }
 {
     match answer {
-        Ok(answer) => Reply::Saw(answer.bytes),
-        Err(LoadError::TooLarge { length }) => Reply::Long(length),
+        Ok(answer) => Reply::Loaded(answer.bytes),
+        Err(LoadError::TooLarge { length }) => Reply::TooLarge(length),
         Err(LoadError::Failed) => Reply::Fault,
-        Err(LoadError::Memory) => Reply::Short,
+        Err(LoadError::Memory) => Reply::NoMemory,
     }
 }
 
@@ -39,7 +39,7 @@ fn told(answer: Result<bool, DiskFault>) -> Reply
     ensures { reply_as result ≡ told_reply answer }
 {
     match answer {
-        Ok(did) => Reply::Went(did),
+        Ok(did) => Reply::Done(did),
         Err(DiskFault) => Reply::Fault,
     }
 }
@@ -48,7 +48,7 @@ fn done(answer: Result<(), DiskFault>) -> Reply
     ensures { reply_as result ≡ done_reply answer }
 {
     match answer {
-        Ok(()) => Reply::Went(true),
+        Ok(()) => Reply::Done(true),
         Err(DiskFault) => Reply::Fault,
     }
 }
@@ -127,7 +127,7 @@ pub fn perform<H: Host>(
         }
         Call::Release => {
             release(host, plan.right.bytes());
-            Reply::Went(true)
+            Reply::Done(true)
         }
     }
 }

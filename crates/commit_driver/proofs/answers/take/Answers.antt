@@ -12,5 +12,5 @@ returns-else-at-entries c =
     let base = base_list (option_copied c.args.base) in
     let entries = c.items-entries.ensures in
     let L : List Entry → Type 0 = λ es. length es ≤ c.args.at + 1 in
-    takes-of c.args.plan.now c.args.at c.args.file changes base c.args.place.now c.settle-result.new.place c.settle-result.result c.judged-place.result
-    (subst L entries c.if-at-entries.false) c.settle-result.ensures (c.judged-place.ensures ∙ ap (λ (es : List Entry). judged_at (length es) c.settle-result.result) entries)
+    takes-of c.args.plan.now c.args.at c.args.file changes base c.args.place.now c.make_files-result.new.place c.make_files-result.result c.judged-place.result
+    (subst L entries c.if-at-entries.false) c.make_files-result.ensures (c.judged-place.ensures ∙ ap (λ (es : List Entry). judged_at (length es) c.make_files-result.result) entries)

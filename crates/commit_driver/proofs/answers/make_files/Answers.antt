@@ -7,8 +7,8 @@ use Rattle.commit_driver.specs.Judging.{Judges, TroubleFits}
 use Rattle.commit_driver.specs.Places.{tails_for, files_of}
 use Rattle.commit_driver.proofs.StateLemmas.{length-map}
 use Rattle.commit_driver.proofs.WayLemmas.{tails-long}
-use Rattle.commit_driver.proofs.DecisionLemmas.{settles-so, settles-short}
-use Rattle.commit_driver.proofs.answers.settle.Goals as goal
+use Rattle.commit_driver.proofs.DecisionLemmas.{makes-files, makes-none}
+use Rattle.commit_driver.proofs.answers.make_files.Goals as goal
 
 abbrev entry_names : List Entry → List (List ℕ)
 entry_names es = map (λ (e : Entry). e.name) es
@@ -40,8 +40,8 @@ returns-in-Ok c =
     in
     let J : List Entry → Type 0 = λ es. Judges changes base (entry_names es) old.files judged made in
     let F : List Entry → Type 0 = λ es. TroubleFits (length es) judged in
-    settles-so plan changes base old c.write_decision.new.place tails judged c.write_decision.result made are
+    makes-files plan changes base old c.write_decision.new.place tails judged c.write_decision.result made are
     (subst J entries c.judge-result.ensures.judged) (subst F entries c.judge-result.ensures.fits) c.judge-result.ensures.long c.write_decision.ensures
 
 pub returns-in-Err : goal.returns-in-Err
-returns-in-Err c = settles-short c.args.plan.now c.args.changes.now (base_list (option_copied c.args.base)) c.args.place.now
+returns-in-Err c = makes-none c.args.plan.now c.args.changes.now (base_list (option_copied c.args.base)) c.args.place.now
