@@ -2,6 +2,7 @@ pub mod CallLemmas
 pub mod WithinLemmas
 pub mod StateLemmas
 pub mod WayLemmas
+pub mod MakingLemmas
 pub mod NextLemmas
 pub mod FitLemmas
 pub mod AnswerLemmas

@@ -27,10 +27,11 @@ fn add(change: &Change, text: &mut Text) -> Result<(), Memory>
     ensures can { (texts : List (List ℕ)) → IsOk (outcome_of (Some text.old) change.now texts) }
 {
     match change {
-        Change::Add { texts, .. } => add_texts(text, texts.items()),
-        Change::AddRaw { bytes, .. } => text.push(bytes.bytes()),
-        Change::Rewrite { .. } | Change::Front { .. } => Ok(()),
+        Change::Add { texts, .. } => add_texts(text, texts.items())?,
+        Change::AddRaw { bytes, .. } => text.push(bytes.bytes())?,
+        Change::Rewrite { .. } | Change::Front { .. } => {}
     }
+    Ok(())
 }
 
 /// Makes a change of a file in its place; a file that is only added to isn't copied. If the change can't be made, only
