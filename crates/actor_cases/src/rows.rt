@@ -1,5 +1,5 @@
 // Worked rows of many actors.
-use actor_core::{Actor, Core, CoreChange, CoreError, CoreStep, StepKind};
+use actor_core::{Actor, Core, CoreChange, CoreError, CoreStep, Doing, StepKind, Task};
 use host_port::{DiskView, Part};
 use mail_text::{Items, Memory, Text};
 use std::alloc::Global;
@@ -134,6 +134,28 @@ fn after_second(alloc: Global) -> Result<Core, CoreError> {
     }
 }
 
+// The first is in its commit and has its file locked, the second has ended, and the third has done nothing.
+fn looked_at(alloc: Global) -> Result<bool, CoreError> {
+    let core = after_second(alloc)?;
+    let members = core.members();
+    let locks = core.locks();
+    Ok(
+        members.len() == 3
+            && matches!(
+                &members[0].doing,
+                Doing::Bracket {
+                    task: Task::Commit { .. },
+                    ..
+                }
+            )
+            && matches!(&members[1].doing, Doing::Nothing)
+            && matches!(&members[2].doing, Doing::Nothing)
+            && locks.len() == 1
+            && locks[0].0.bytes() == b"/f".as_slice()
+            && locks[0].1 == 1,
+    )
+}
+
 // The first goes on to its end.
 fn one_commit(alloc: Global) -> Result<bool, CoreError> {
     let mut core = after_second(alloc)?;
@@ -177,6 +199,7 @@ fn one_recovery(alloc: Global) -> Result<bool, CoreError> {
 #[test]
 fn commits(rt: HostRuntime) -> Result<(), Fail> {
     let alloc = rt.alloc();
+    assert!(rt; matches!(looked_at(alloc), Ok(true)));
     assert!(rt; matches!(one_commit(alloc), Ok(true)));
     Ok(())
 }

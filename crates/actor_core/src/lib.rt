@@ -18,6 +18,6 @@ mod starting;
 mod taking;
 mod turning;
 
-pub use core_steps::{Actor, CoreChange, CoreStep, StepKind};
+pub use core_steps::{Actor, CoreChange, CoreStep, Doing, Member, Past, StepKind, Task};
 pub use error::CoreError;
 pub use many::Core;

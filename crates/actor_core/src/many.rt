@@ -130,6 +130,21 @@ impl Core {
         self.lists.files.items()
     }
 
+    /// The locks, each with the token of its owner. It takes no memory.
+    pub fn locks(&self) -> &[(Text, u64)]
+        ensures locks { result.now ≡ self.now.locks }
+        ensures once { NamesOnce result.now }
+    {
+        self.lists.locks.items()
+    }
+
+    /// The actors, with what each is doing. It takes no memory.
+    pub fn members(&self) -> &[Member]
+        ensures { result.now ≡ self.now.members }
+    {
+        self.members.items()
+    }
+
     /// The commit places that were passed, in order: the token of the actor, and its changes. It takes no memory.
     pub fn places(&self) -> &[(u64, Items<CoreChange>)]
         ensures { result.now ≡ self.now.places }
