@@ -28,8 +28,8 @@ abbrev pub says : List ℕ → Effects → OrFault Steps
 says bytes effects = Ok (record { asks = Say bytes ∷ []; effects = effects })
 
 -- this is changed, and nothing is printed
-abbrev pub quietly : Effects → OrFault Steps
-quietly effects = Ok (record { asks = []; effects = effects })
+abbrev pub effects_alone : Effects → OrFault Steps
+effects_alone effects = Ok (record { asks = []; effects = effects })
 
 -- an answer is the one that is meant, or memory ran out
 abbrev pub Means : {A : Type 0} → Result A Refusal → OrFault A → Type 0

@@ -7,7 +7,7 @@ use Rattle.mailx_vars.specs.declared.settings.Setting.{Setting}
 use Rattle.message_state.specs.declared.mark.Act.{Act}
 use Rattle.message_state.specs.declared.row.Row.{Row}
 use Rattle.message_state.specs.States.{after}
-use Rattle.quit_rules.specs.declared.gathered.Gathered.{Gathered}
+use Rattle.quit_rules.specs.declared.gathered.BatchItem.{BatchItem}
 use Rattle.command_desk.specs.declared.desk.Desk.{Desk}
 use Rattle.command_desk.specs.declared.effects.Marking.{Marking}
 use Rattle.command_desk.specs.declared.effects.Effects.{Effects}
@@ -37,42 +37,42 @@ with_rows desk rows = record desk {
 
 -- the desk with this current message
 abbrev pub with_current : Desk → ℕ → Bool → Desk
-with_current desk current fresh = record desk { shown = record desk.shown { current = current }; fresh = fresh }
+with_current desk current unprinted = record desk { shown = record desk.shown { current = current }; unprinted = unprinted }
 
 -- the desk after changes but those of names and of what was gathered: what isn't named stays
 abbrev pub carried : Desk → List Marking → Option ℕ → Option Bool → Option ℕ → List Setting → Desk
-carried desk marks current fresh page settings =
+carried desk marks current unprinted page settings =
     let with_marks = with_rows desk (rows_after desk.shown.rows marks) in
-    record (with_current with_marks (unwrap_or current desk.shown.current) (unwrap_or fresh desk.fresh)) {
+    record (with_current with_marks (unwrap_or current desk.shown.current) (unwrap_or unprinted desk.unprinted)) {
       vars = fold changed desk.vars settings;
       page = unwrap_or page desk.page;
     }
 
 -- the desk after a command: what its effects don't name stays
 abbrev pub effect : Desk → Effects → Desk
-effect desk effects = record (carried (renamed desk effects.naming) effects.marks effects.current effects.fresh effects.page effects.settings) {
+effect desk effects = record (carried (renamed desk effects.naming) effects.marks effects.current effects.unprinted effects.page effects.settings) {
   conditions = unwrap_or effects.conditions desk.conditions;
 }
 
 -- no change
 abbrev pub unchanged : Effects
-unchanged = record { marks = []; current = None; fresh = None; page = None; settings = []; naming = None; conditions = None }
+unchanged = record { marks = []; current = None; unprinted = None; page = None; settings = []; naming = None; conditions = None }
 
 -- a change of names, and no other change
 abbrev pub renames : Naming → Effects
 renames change = record unchanged { naming = Some change }
 
 -- these changes, and this is gathered
-abbrev pub gathers : Effects → Gathered → Effects
+abbrev pub gathers : Effects → BatchItem → Effects
 gathers effects gathered = record effects { naming = Some (naming.Gather gathered) }
 
 -- message n becomes current; it is unwritten, if another was current before
 abbrev pub moved : Desk → ℕ → Effects
-moved desk n = record unchanged { current = Some n; fresh = if n == desk.shown.current then None else Some true }
+moved desk n = record unchanged { current = Some n; unprinted = if n == desk.shown.current then None else Some true }
 
 -- message n becomes current and is written
 abbrev pub written : ℕ → Effects
-written n = record unchanged { current = Some n; fresh = Some false }
+written n = record unchanged { current = Some n; unprinted = Some false }
 
 -- an act on message n, numbered from 1
 abbrev pub marking : Act → ℕ → Marking

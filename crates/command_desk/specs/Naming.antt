@@ -8,7 +8,7 @@ use Rattle.alias_groups.specs.declared.own.Own.{Own}
 use Rattle.mailx_macros.specs.Macros.{Definitions, begin_refusal, begun, ended, line_refusal, with_line, without}
 use Rattle.message_show.specs.FieldSets.{FieldNames}
 use Rattle.name_lists.specs.Names.{with_names}
-use Rattle.quit_rules.specs.declared.gathered.Gathered.{Gathered}
+use Rattle.quit_rules.specs.declared.gathered.BatchItem.{BatchItem}
 use Rattle.command_desk.specs.declared.desk.Desk.{Desk}
 use Rattle.command_desk.specs.declared.naming.Naming.{Naming}
 use Rattle.command_desk.specs.declared.naming.Naming.TheVariants as naming
@@ -58,7 +58,7 @@ macros_after (Some (naming.Undef names)) macros = without_these macros names
 macros_after other macros = macros
 
 -- what was gathered, and then what is gathered now
-abbrev pub gathered_after : Option Naming → List Gathered → List Gathered
+abbrev pub gathered_after : Option Naming → List BatchItem → List BatchItem
 gathered_after (Some (naming.Gather one)) gathered = gathered ++ one ∷ []
 gathered_after other gathered = gathered
 

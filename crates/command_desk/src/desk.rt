@@ -4,7 +4,7 @@ use mailx_macros::Macros;
 use mailx_vars::{Places, Vars};
 use message_show::FieldSets;
 use message_state::Shown;
-use quit_rules::{Gathering, Open};
+use quit_rules::{Batch, Open};
 use rc_conditionals::{Conditions, Mode};
 use thread_view::ViewKind;
 
@@ -16,7 +16,7 @@ pub struct Desk {
     /// The open folder.
     pub folder: Open,
     /// What was gathered, which is done when the folder is left.
-    pub gathered: Gathering,
+    pub gathered: Batch,
     /// The name of the file that was open before it; empty if none was.
     pub previous: Text,
     /// Its messages as they are shown.
@@ -42,7 +42,7 @@ pub struct Desk {
     /// The page that was printed last, from 0.
     pub page: usize,
     /// Whether the current message is unwritten: it wasn't printed since it became current.
-    pub fresh: bool,
+    pub unprinted: bool,
     /// The files and programs that the environment names, and the width of a line.
     pub places: Places,
 }

@@ -11,7 +11,7 @@ use crate::{Desk, Naming};
 use mail_text::{Items, Memory};
 use mailx_vars::{Setting, Vars};
 use message_state::{Act, Mark, RowList, after};
-use quit_rules::Gathered;
+use quit_rules::BatchItem;
 use rc_conditionals::Conditions;
 use std::alloc::Global;
 
@@ -32,7 +32,7 @@ pub struct Effects {
     /// The message that is current then.
     pub current: Option<u32>,
     /// Whether it is unwritten.
-    pub fresh: Option<bool>,
+    pub unprinted: Option<bool>,
     /// The page that was printed last.
     pub page: Option<usize>,
     /// Changes of variables, in order.
@@ -76,29 +76,29 @@ fn turn(conditions: &mut Conditions, turned: Option<Conditions>)
 
 impl Desk {
     // Carries out changes but those of names and of what was gathered.
-    fn carry(
+    fn apply_but_names(
         &mut self,
         marks: &[Marking],
         current: Option<u32>,
-        fresh: Option<bool>,
+        unprinted: Option<bool>,
         page: Option<usize>,
         settings: Items<Setting>,
     )
         requires { self.old.folder.marks ≡ map (λ (row : Row). row.mark) self.old.shown.rows }
-        ensures { self.new ≡ carried self.old marks.now current fresh page settings }
+        ensures { self.new ≡ carried self.old marks.now current unprinted page settings }
     {
         for marking in marks {
             mark_row(&mut self.shown.rows, &mut self.folder.marks, *marking);
         }
         self.shown.current = current.unwrap_or(self.shown.current);
-        self.fresh = fresh.unwrap_or(self.fresh);
+        self.unprinted = unprinted.unwrap_or(self.unprinted);
         self.page = page.unwrap_or(self.page);
         change_all(&mut self.vars, settings);
     }
 
     /// Carries out the changes of a command once what it asked for was done, in as much time as there are changes.
     /// It takes no memory if no names are changed and nothing is gathered; if memory runs out, all is as before.
-    pub fn settle(&mut self, effects: Effects) -> Result<(), Memory>
+    pub fn apply(&mut self, effects: Effects) -> Result<(), Memory>
         requires before { IsDesk self.old }
         requires after { IsDesk (effect self.old effects) }
         ensures ok { OnOk result (self.new ≡ effect self.old effects) }
@@ -108,14 +108,14 @@ impl Desk {
         let Effects {
             marks,
             current,
-            fresh,
+            unprinted,
             page,
             settings,
             naming,
             conditions,
         } = effects;
         self.rename(naming)?;
-        self.carry(marks.items(), current, fresh, page, settings);
+        self.apply_but_names(marks.items(), current, unprinted, page, settings);
         turn(&mut self.conditions, conditions);
         Ok(())
     }
@@ -128,7 +128,7 @@ pub fn unchanged(alloc: Global) -> Effects
     Effects {
         marks: Items::new(alloc),
         current: None,
-        fresh: None,
+        unprinted: None,
         page: None,
         settings: Items::new(alloc),
         naming: None,
@@ -147,7 +147,7 @@ pub fn renames(alloc: Global, naming: Naming) -> Effects
 }
 
 /// These changes, none of which is one of names, and this is gathered. It takes no memory.
-pub fn gathers(effects: Effects, gathered: Gathered) -> Effects
+pub fn gathers(effects: Effects, gathered: BatchItem) -> Effects
     ensures { result ≡ gathers effects gathered }
 {
     Effects {
@@ -160,14 +160,14 @@ pub fn gathers(effects: Effects, gathered: Gathered) -> Effects
 pub fn moved(alloc: Global, desk: &Desk, n: u32) -> Effects
     ensures { result ≡ moved desk.now n }
 {
-    let fresh = if n == desk.shown.current {
+    let unprinted = if n == desk.shown.current {
         None
     } else {
         Some(true)
     };
     Effects {
         current: Some(n),
-        fresh,
+        unprinted,
         ..unchanged(alloc)
     }
 }
@@ -178,7 +178,7 @@ pub fn written(alloc: Global, n: u32) -> Effects
 {
     Effects {
         current: Some(n),
-        fresh: Some(false),
+        unprinted: Some(false),
         ..unchanged(alloc)
     }
 }

@@ -7,7 +7,7 @@ ghost use Rattle.command_desk.specs.Naming.{begun_unless_refused, renamed, with_
 use crate::Desk;
 use mail_text::{Items, Memory, Text};
 use mailx_macros::{MacroError, Macros};
-use quit_rules::Gathered;
+use quit_rules::BatchItem;
 
 /// A change for which a desk takes memory: of what the user has named, which are aliases, the user's own names, the
 /// fields that are left out or kept, and macros; or of what was gathered.
@@ -32,7 +32,7 @@ pub enum Naming {
     /// The macros of these names are removed; a name that isn't defined is passed over.
     Undef { names: Items<Text> },
     /// This is gathered, after what was.
-    Gather { gathered: Gathered },
+    Gather { gathered: BatchItem },
 }
 
 // Begins a definition, if that isn't refused.

@@ -94,12 +94,12 @@ const FEW: usize = 16;
 /// Messages, and if they are more than a few a flag for each number, which says whether it is one of them. Contracts
 /// see them as the list of the messages.
 #[derive(Drop)]
-pub struct Among<'a> {
+pub struct MessageSet<'a> {
     numbers: &'a [u32],
     flags: Option<Vec<bool>>,
 }
 
-impl<'a> Model for Among<'a> {
+impl<'a> Model for MessageSet<'a> {
     ghost use Rattle.std.specs.Prelude.{ℕ, List};
     ghost use Rattle.std.specs.Prelude.{IfSome};
     ghost use Rattle.command_desk.specs.Selecting.{AreFlags};
@@ -134,21 +134,21 @@ fn flag_of(flags: &[bool], n: usize) -> bool
     }
 }
 
-impl<'a> Among<'a> {
+impl<'a> MessageSet<'a> {
     /// The messages of a list, if there are `count` messages in all.
-    pub fn of(alloc: Global, numbers: &'a [u32], count: usize) -> Result<Among<'a>, Memory>
+    pub fn of(alloc: Global, numbers: &'a [u32], count: usize) -> Result<MessageSet<'a>, Memory>
         requires few { count ≤ MOST_MESSAGES }
         requires within { All (λ n. n ≤ count) numbers.now }
         ensures { IfOk result (λ among. among ≡ numbers.now) }
     {
         if numbers.len() <= FEW {
-            return Ok(Among {
+            return Ok(MessageSet {
                 numbers,
                 flags: None,
             });
         }
         let flags = flags_of(alloc, numbers, count)?;
-        Ok(Among {
+        Ok(MessageSet {
             numbers,
             flags: Some(flags),
         })

@@ -1,5 +1,5 @@
 ghost use Rattle.std.specs.Prelude.{◌≡◌, IfOk, Ok};
-ghost use Rattle.command_desk.specs.Answers.{Means, says, quietly};
+ghost use Rattle.command_desk.specs.Answers.{Means, says, effects_alone};
 
 use crate::Effects;
 use draft_text::Draft;
@@ -121,8 +121,8 @@ pub fn says(alloc: Global, bytes: Text, effects: Effects) -> Result<Steps, Refus
 }
 
 /// This is changed, and nothing is printed.
-pub fn quietly(alloc: Global, effects: Effects) -> Steps
-    ensures { quietly effects ≡ Ok result }
+pub fn effects_alone(alloc: Global, effects: Effects) -> Steps
+    ensures { effects_alone effects ≡ Ok result }
 {
     Steps {
         asks: Items::new(alloc),

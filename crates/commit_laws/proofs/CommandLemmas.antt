@@ -28,7 +28,7 @@ use Rattle.rc_conditionals.specs.Turns.{turned}
 use Rattle.thread_view.specs.declared.view.ViewKind.{ViewKind}
 use Rattle.command_desk.specs.declared.desk.Desk.{Desk}
 use Rattle.command_desk.specs.declared.steps.Steps.{Steps}
-use Rattle.command_desk.specs.Answers.{OrFault, next, unless, quietly}
+use Rattle.command_desk.specs.Answers.{OrFault, next, unless, effects_alone}
 use Rattle.command_desk.specs.Selecting.{chosen, last_word, list_words, single}
 use Rattle.show_commands.specs.Paging as paging
 use Rattle.show_commands.specs.Printing as printing
@@ -126,7 +126,7 @@ module _ (home : Desk) where
 
   delete_so : (desk : Desk) (words : List (List ℕ)) → Good (deleting.delete desk words)
   delete_so desk words =
-      either (is_set desk.vars (codes "autoprint")) _ _ (delete_and_print_so desk words) (then_so (chosen Live desk words) (λ ns. quietly (deleting.deleted desk ns)) (λ ns. nothing))
+      either (is_set desk.vars (codes "autoprint")) _ _ (delete_and_print_so desk words) (then_so (chosen Live desk words) (λ ns. effects_alone (deleting.deleted desk ns)) (λ ns. nothing))
 
   give_back_so : (desk : Desk) (ns : List ℕ) → Good (deleting.give_back desk ns)
   give_back_so desk ns = either (is_set desk.vars (codes "autoprint")) _ _ (one tt) nothing
@@ -359,7 +359,7 @@ module _ (home : Desk) where
   pub commanded_so : (from : Origin) (line : List ℕ) → Good (commanded from home line)
   commanded_so from line =
       either (is_defining home) (definition_line home line) (commanded_outside from home line) (definition_so home line)
-      (either (passes_over home line) (quietly unchanged) (next (read_from from line) (λ l. meaning l home)) nothing (read_so from (read_or_fault (reading line))))
+      (either (passes_over home line) (effects_alone unchanged) (next (read_from from line) (λ l. meaning l home)) nothing (read_so from (read_or_fault (reading line))))
 
 pub lines_ask : LinesAsk
 lines_ask from desk line steps is = subst (Good desk) is (commanded_so desk from line)

@@ -11,7 +11,7 @@ use Rattle.rc_conditionals.specs.Turns.{turned}
 use Rattle.command_desk.specs.declared.desk.Desk.{Desk}
 use Rattle.command_desk.specs.declared.effects.Effects.{Effects}
 use Rattle.command_desk.specs.declared.steps.Steps.{Steps}
-use Rattle.command_desk.specs.Answers.{OrFault, quietly}
+use Rattle.command_desk.specs.Answers.{OrFault, effects_alone}
 use Rattle.command_desk.specs.Effects.{unchanged}
 use Rattle.command_desk.specs.Faults.{bad_arguments, bad_condition, conditions_too_deep, else_without_if, endif_without_if}
 
@@ -27,7 +27,7 @@ abbrev pub turns : List Condition → Effects
 turns list = record unchanged { conditions = Some list }
 
 abbrev pub turns_or_fault : List ℕ → Result (List Condition) CondError → OrFault Steps
-turns_or_fault test (Ok list) = quietly (turns list)
+turns_or_fault test (Ok list) = effects_alone (turns list)
 turns_or_fault test (Err e) = Err (condition_fault test e)
 
 -- a condition is opened, turned round or closed

@@ -10,7 +10,7 @@ use Rattle.mailx_macros.specs.declared.error.MacroError.TheVariants as error
 use Rattle.command_desk.specs.declared.desk.Desk.{Desk}
 use Rattle.command_desk.specs.declared.naming.Naming.TheVariants as naming
 use Rattle.command_desk.specs.declared.steps.Steps.{Steps}
-use Rattle.command_desk.specs.Answers.{OrFault, quietly}
+use Rattle.command_desk.specs.Answers.{OrFault, effects_alone}
 use Rattle.command_desk.specs.Effects.{renames}
 use Rattle.command_desk.specs.Faults.{bad_arguments, already_defined, define_inside_define, too_many_macros}
 
@@ -28,7 +28,7 @@ or_macro_fault name None meant = meant
 
 -- a definition of this name is begun, unless it is refused
 abbrev pub define_named : Desk → List ℕ → OrFault Steps
-define_named desk name = or_macro_fault name (begin_refusal desk.macros name) (quietly (renames (naming.Begin name)))
+define_named desk name = or_macro_fault name (begin_refusal desk.macros name) (effects_alone (renames (naming.Begin name)))
 
 -- a definition of this name is begun, if the word after the name is `{`, unless it is refused
 abbrev pub define_braced : Desk → List ℕ → List ℕ → OrFault Steps
@@ -43,15 +43,15 @@ define desk words = Err (bad_arguments (codes "define"))
 
 -- the definition that is under way takes a line, unless it is refused
 abbrev pub line_taken : Desk → List ℕ → OrFault Steps
-line_taken desk line = or_macro_fault [] (line_refusal desk.macros line) (quietly (renames (naming.Line line)))
+line_taken desk line = or_macro_fault [] (line_refusal desk.macros line) (effects_alone (renames (naming.Line line)))
 
 -- a line of the definition that is under way: `}` alone ends it, another is a line of the macro
 abbrev pub definition_line : Desk → List ℕ → OrFault Steps
 definition_line desk line =
-    if bytes_eq line (codes "}") then quietly (renames naming.End)
+    if bytes_eq line (codes "}") then effects_alone (renames naming.End)
     else line_taken desk line
 
 -- `undef`: one that isn't defined is passed over
 abbrev pub undef : Desk → List (List ℕ) → OrFault Steps
 undef desk [] = Err (bad_arguments (codes "undef"))
-undef desk (w ∷ ws) = quietly (renames (naming.Undef (w ∷ ws)))
+undef desk (w ∷ ws) = effects_alone (renames (naming.Undef (w ∷ ws)))

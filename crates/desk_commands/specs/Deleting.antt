@@ -12,7 +12,7 @@ use Rattle.message_show.specs.declared.text.How.TheVariants.{Kept}
 use Rattle.command_desk.specs.declared.desk.Desk.{Desk}
 use Rattle.command_desk.specs.declared.effects.Effects.{Effects}
 use Rattle.command_desk.specs.declared.steps.Steps.{Steps}
-use Rattle.command_desk.specs.Answers.{OrFault, next, says, quietly}
+use Rattle.command_desk.specs.Answers.{OrFault, next, says, effects_alone}
 use Rattle.command_desk.specs.Effects.{unchanged, moved, written, markings, marked, marked_and_written}
 use Rattle.command_desk.specs.Faults.{at_end}
 use Rattle.command_desk.specs.Selecting.{chosen, last_message, is_among}
@@ -47,7 +47,7 @@ delete_and_print desk words = next (chosen Live desk words) (λ ns. print_after 
 
 -- `delete` without `autoprint`
 abbrev pub delete_quietly : Desk → List (List ℕ) → OrFault Steps
-delete_quietly desk words = next (chosen Live desk words) (λ ns. quietly (deleted desk ns))
+delete_quietly desk words = next (chosen Live desk words) (λ ns. effects_alone (deleted desk ns))
 
 -- `delete`; with `autoprint` as `dp`
 abbrev pub delete : Desk → List (List ℕ) → OrFault Steps
@@ -60,7 +60,7 @@ abbrev pub give_back : Desk → List ℕ → OrFault Steps
 give_back desk ns =
     if is_set desk.vars (codes "autoprint")
     then says (printed desk Kept (last_message ns)) (marked_and_written Undelete ns)
-    else quietly (marked desk Undelete ns)
+    else effects_alone (marked desk Undelete ns)
 
 -- `undelete`
 abbrev pub undelete : Desk → List (List ℕ) → OrFault Steps

@@ -5,13 +5,13 @@ use Rattle.message_state.specs.declared.mark.Act.TheVariants.{Hold, Mbox, Touch}
 use Rattle.message_list.specs.declared.list.Purpose.TheVariants.{Live}
 use Rattle.command_desk.specs.declared.desk.Desk.{Desk}
 use Rattle.command_desk.specs.declared.steps.Steps.{Steps}
-use Rattle.command_desk.specs.Answers.{OrFault, next, quietly}
+use Rattle.command_desk.specs.Answers.{OrFault, next, effects_alone}
 use Rattle.command_desk.specs.Effects.{marked_and_written}
 use Rattle.command_desk.specs.Selecting.{chosen}
 
 -- an act is done on the selected messages; the last of them is current, and counts as written
 abbrev pub mark : Act → Desk → List (List ℕ) → OrFault Steps
-mark act desk words = next (chosen Live desk words) (λ ns. quietly (marked_and_written act ns))
+mark act desk words = next (chosen Live desk words) (λ ns. effects_alone (marked_and_written act ns))
 
 -- `hold`, `preserve`: they stay in the system mailbox
 abbrev pub hold : Desk → List (List ℕ) → OrFault Steps

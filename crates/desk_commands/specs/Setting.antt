@@ -14,7 +14,7 @@ use Rattle.mailx_vars.specs.declared.error.VarError.TheVariants.{BadName}
 use Rattle.command_desk.specs.declared.desk.Desk.{Desk}
 use Rattle.command_desk.specs.declared.effects.Effects.{Effects}
 use Rattle.command_desk.specs.declared.steps.Steps.{Steps}
-use Rattle.command_desk.specs.Answers.{OrFault, unless, says, quietly}
+use Rattle.command_desk.specs.Answers.{OrFault, unless, says, effects_alone}
 use Rattle.command_desk.specs.Effects.{unchanged}
 use Rattle.command_desk.specs.Faults.{bad_arguments, bad_name, too_many_variables}
 
@@ -80,9 +80,9 @@ abbrev pub set : Desk → List (List ℕ) → OrFault Steps
 set desk [] = says (flat_map setting_line desk.vars) unchanged
 set desk (w ∷ ws) =
     let settings = map setting_of (w ∷ ws) in
-    unless (first_refusal desk.vars settings) (λ line. line) (quietly (sets settings))
+    unless (first_refusal desk.vars settings) (λ line. line) (effects_alone (sets settings))
 
 -- `unset`: a variable that isn't set is passed over
 abbrev pub unset : Desk → List (List ℕ) → OrFault Steps
 unset desk [] = Err (bad_arguments (codes "unset"))
-unset desk (w ∷ ws) = quietly (sets (map unsetting (w ∷ ws)))
+unset desk (w ∷ ws) = effects_alone (sets (map unsetting (w ∷ ws)))

@@ -5,7 +5,7 @@ ghost use Rattle.desk_commands.specs.Naming.{alias, alternates, given, unalias};
 
 use alias_groups::each_once;
 use command_desk::{
-    Desk, Naming, Refusal, Steps, as_lines, copies, fault, quietly, renames, says, unchanged,
+    Desk, Naming, Refusal, Steps, as_lines, copies, effects_alone, fault, renames, says, unchanged,
 };
 use mail_text::{Memory, Text};
 use std::alloc::Global;
@@ -22,7 +22,7 @@ fn given(alloc: Global, desk: &Desk, name: &[u8], members: &[Text]) -> Result<St
         name: Text::copy(alloc, name)?,
         members: copies(alloc, members)?,
     };
-    Ok(quietly(alloc, renames(alloc, naming)))
+    Ok(effects_alone(alloc, renames(alloc, naming)))
 }
 
 /// `alias`, `group`: without words all aliases are listed, in order of first definition; with one word that alias is,
@@ -54,7 +54,7 @@ pub fn unalias(alloc: Global, desk: &Desk, words: &[Text]) -> Result<Steps, Refu
         return Err(fault(alloc, b"unalias", b": bad arguments"));
     }
     let names = copies(alloc, words)?;
-    Ok(quietly(alloc, renames(alloc, Naming::Unalias { names })))
+    Ok(effects_alone(alloc, renames(alloc, Naming::Unalias { names })))
 }
 
 /// `alternates`: these are the user's other names, each once, ASCII case ignored; without words they are listed, one a
@@ -69,5 +69,5 @@ pub fn alternates(alloc: Global, desk: &Desk, words: &[Text]) -> Result<Steps, R
         return says(alloc, out, unchanged(alloc));
     }
     let names = each_once(alloc, words)?;
-    Ok(quietly(alloc, renames(alloc, Naming::Alternates { names })))
+    Ok(effects_alone(alloc, renames(alloc, Naming::Alternates { names })))
 }

@@ -5,7 +5,7 @@ ghost use Rattle.command_desk.specs.Desks.{IsWithin};
 ghost use Rattle.rc_conditionals.specs.Turns.{IsConditionWord};
 ghost use Rattle.desk_commands.specs.Conditions.{condition_fault, turns, turning, opening, turning_alone, condition};
 
-use command_desk::{Desk, Effects, Refusal, Steps, fault, quietly, unchanged};
+use command_desk::{Desk, Effects, Refusal, Steps, effects_alone, fault, unchanged};
 use mail_text::Text;
 use rc_conditionals::{CondError, Conditions};
 use std::alloc::Global;
@@ -40,7 +40,7 @@ fn turning(alloc: Global, desk: &Desk, name: &[u8], test: &[u8]) -> Result<Steps
 {
     let mut conditions = desk.conditions.copy();
     match conditions.turn(name, test, desk.mode, desk.terminal) {
-        Ok(()) => Ok(quietly(alloc, turns(alloc, conditions))),
+        Ok(()) => Ok(effects_alone(alloc, turns(alloc, conditions))),
         Err(error) => Err(refusal(alloc, test, error)),
     }
 }

@@ -4,7 +4,7 @@ ghost use Rattle.command_desk.specs.Answers.{IsRefusal, Means};
 ghost use Rattle.command_desk.specs.Desks.{IsWithin};
 ghost use Rattle.desk_commands.specs.Defining.{define, define_braced, define_named, definition_line, line_taken, macro_fault, undef};
 
-use command_desk::{Desk, Naming, Refusal, Steps, copies, fault, quietly, renames};
+use command_desk::{Desk, Naming, Refusal, Steps, copies, effects_alone, fault, renames};
 use mail_text::Text;
 use mailx_macros::MacroError;
 use std::alloc::Global;
@@ -30,7 +30,7 @@ fn define_named(alloc: Global, desk: &Desk, name: &[u8]) -> Result<Steps, Refusa
         Some(error) => Err(refusal(alloc, name, error)),
         None => {
             let name = Text::copy(alloc, name)?;
-            Ok(quietly(alloc, renames(alloc, Naming::Begin { name })))
+            Ok(effects_alone(alloc, renames(alloc, Naming::Begin { name })))
         }
     }
 }
@@ -68,7 +68,7 @@ fn line_taken(alloc: Global, desk: &Desk, line: &[u8]) -> Result<Steps, Refusal>
         Some(error) => Err(refusal(alloc, b"", error)),
         None => {
             let line = Text::copy(alloc, line)?;
-            Ok(quietly(alloc, renames(alloc, Naming::Line { line })))
+            Ok(effects_alone(alloc, renames(alloc, Naming::Line { line })))
         }
     }
 }
@@ -80,7 +80,7 @@ pub fn definition_line(alloc: Global, desk: &Desk, line: &[u8]) -> Result<Steps,
     ensures within { IsWithin desk.now result }
 {
     if line == b"}".as_slice() {
-        Ok(quietly(alloc, renames(alloc, Naming::End)))
+        Ok(effects_alone(alloc, renames(alloc, Naming::End)))
     } else {
         line_taken(alloc, desk, line)
     }
@@ -95,5 +95,5 @@ pub fn undef(alloc: Global, desk: &Desk, words: &[Text]) -> Result<Steps, Refusa
         return Err(fault(alloc, b"undef", b": bad arguments"));
     }
     let names = copies(alloc, words)?;
-    Ok(quietly(alloc, renames(alloc, Naming::Undef { names })))
+    Ok(effects_alone(alloc, renames(alloc, Naming::Undef { names })))
 }

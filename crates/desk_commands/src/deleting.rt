@@ -4,7 +4,7 @@ ghost use Rattle.std.specs.List.{find, range_with_len};
 ghost use Rattle.message_state.specs.ShownRows.{IsShown};
 ghost use Rattle.message_state.specs.declared.mark.Act.TheVariants as act;
 ghost use Rattle.message_list.specs.Places.{before_message};
-ghost use Rattle.command_desk.specs.Answers.{Means, says, quietly};
+ghost use Rattle.command_desk.specs.Answers.{Means, says, effects_alone};
 ghost use Rattle.message_show.specs.declared.text.How.TheVariants as how;
 ghost use Rattle.command_desk.specs.Selecting.{chosen, last_message};
 ghost use Rattle.command_desk.specs.Desks.{IsDesk, IsMessageOf, IsWithin};
@@ -13,8 +13,8 @@ ghost use Rattle.desk_commands.specs.Deleting.{is_left, after_deleting, deleted,
 ghost use Rattle.command_desk.specs.Messages.{printed};
 
 use command_desk::{
-    Among, Desk, Effects, Refusal, Steps, act_on, chosen, last_message, marked, marked_and_written,
-    markings, moved, printed, quietly, says, unchanged, written,
+    Desk, Effects, MessageSet, Refusal, Steps, act_on, chosen, effects_alone, last_message, marked,
+    marked_and_written, markings, moved, printed, says, unchanged, written,
 };
 use mail_text::{Memory, Text};
 use message_list::{Purpose, in_base, next_live, place_of};
@@ -23,14 +23,14 @@ use message_state::{Act, Shown, Standing};
 use std::alloc::Global;
 
 // Whether message n is live and isn't among those that are deleted now.
-fn is_left(shown: &Shown, among: &Among<'_>, n: u32) -> bool
+fn is_left(shown: &Shown, among: &MessageSet<'_>, n: u32) -> bool
     ensures { result ≡ is_left shown.now among.now n }
 {
     in_base(shown, Purpose::Live, n) && !among.has(n)
 }
 
 // The last of these messages that is left.
-fn nearest_left(shown: &Shown, among: &Among<'_>, messages: &[u32]) -> Option<u32>
+fn nearest_left(shown: &Shown, among: &MessageSet<'_>, messages: &[u32]) -> Option<u32>
     ensures { result ≡ find (is_left shown.now among.now) (reverse messages.now) }
 {
     messages
@@ -52,7 +52,7 @@ fn last_left(
     requires last { IsMessageOf shown.now last }
     ensures { IfOk result (λ n. n ≡ find (is_left shown.now numbers.now) (before_message shown.now last)) }
 {
-    let among = Among::of(alloc, numbers, shown.rows.items().len())?;
+    let among = MessageSet::of(alloc, numbers, shown.rows.items().len())?;
     if shown.order.is_by_number() {
         return Ok(left_by_number(shown, &among, last));
     }
@@ -67,7 +67,7 @@ fn last_left(
 
 // The last live message before this one in the view by number that isn't among those that are deleted now. It takes no
 // walk over deleted messages.
-fn left_by_number(shown: &Shown, among: &Among<'_>, last: u32) -> Option<u32>
+fn left_by_number(shown: &Shown, among: &MessageSet<'_>, last: u32) -> Option<u32>
     requires shown { IsShown shown.now }
     requires by_number { shown.now.order ≡ range_with_len 1 (length shown.now.order) }
     requires message { IsMessageOf shown.now last }
@@ -176,7 +176,7 @@ fn delete_quietly(alloc: Global, desk: &Desk, words: &[Text]) -> Result<Steps, R
 {
     let numbers = chosen(alloc, words, desk, Purpose::Live)?;
     let effects = deleted(alloc, desk, numbers.items())?;
-    Ok(quietly(alloc, effects))
+    Ok(effects_alone(alloc, effects))
 }
 
 /// `delete`.
@@ -219,7 +219,7 @@ fn give_back(alloc: Global, desk: &Desk, numbers: &[u32]) -> Result<Steps, Refus
         return give_back_and_print(alloc, desk, numbers);
     }
     let effects = marked(alloc, desk, Act::Undelete, numbers)?;
-    Ok(quietly(alloc, effects))
+    Ok(effects_alone(alloc, effects))
 }
 
 /// `undelete`.

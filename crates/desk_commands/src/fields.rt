@@ -5,7 +5,7 @@ ghost use Rattle.command_desk.specs.Desks.{IsDesk, IsWithin};
 ghost use Rattle.desk_commands.specs.Naming.{ignore, retain};
 
 use command_desk::{
-    Desk, Naming, Refusal, Steps, as_lines, copies, quietly, renames, says, unchanged,
+    Desk, Naming, Refusal, Steps, as_lines, copies, effects_alone, renames, says, unchanged,
 };
 use mail_text::Text;
 use std::alloc::Global;
@@ -21,7 +21,7 @@ pub fn ignore(alloc: Global, desk: &Desk, words: &[Text]) -> Result<Steps, Refus
         return says(alloc, out, unchanged(alloc));
     }
     let names = copies(alloc, words)?;
-    Ok(quietly(alloc, renames(alloc, Naming::Ignore { names })))
+    Ok(effects_alone(alloc, renames(alloc, Naming::Ignore { names })))
 }
 
 /// `retain`: fields of these names are kept, and of those named so before, and no others; without words these are
@@ -36,5 +36,5 @@ pub fn retain(alloc: Global, desk: &Desk, words: &[Text]) -> Result<Steps, Refus
         return says(alloc, out, unchanged(alloc));
     }
     let names = copies(alloc, words)?;
-    Ok(quietly(alloc, renames(alloc, Naming::Retain { names })))
+    Ok(effects_alone(alloc, renames(alloc, Naming::Retain { names })))
 }

@@ -3,7 +3,7 @@ ghost use Rattle.command_desk.specs.Answers.{Means};
 ghost use Rattle.command_desk.specs.Desks.{IsDesk, IsWithin};
 ghost use Rattle.desk_commands.specs.Flagging.{flagging};
 
-use command_desk::{Desk, Refusal, Steps, chosen, marked, quietly};
+use command_desk::{Desk, Refusal, Steps, chosen, effects_alone, marked};
 use mail_text::Text;
 use message_list::Purpose;
 use message_state::Act;
@@ -18,5 +18,5 @@ pub fn flagging(alloc: Global, act: Act, desk: &Desk, words: &[Text]) -> Result<
 {
     let numbers = chosen(alloc, words, desk, Purpose::Live)?;
     let effects = marked(alloc, desk, act, numbers.items())?;
-    Ok(quietly(alloc, effects))
+    Ok(effects_alone(alloc, effects))
 }

@@ -3,7 +3,7 @@ ghost use Rattle.command_desk.specs.Answers.{Means};
 ghost use Rattle.command_desk.specs.Desks.{IsDesk, IsWithin};
 ghost use Rattle.desk_commands.specs.Leaving.{mark, hold, mbox, touch};
 
-use command_desk::{Desk, Refusal, Steps, chosen, marked_and_written, quietly};
+use command_desk::{Desk, Refusal, Steps, chosen, effects_alone, marked_and_written};
 use mail_text::Text;
 use message_list::Purpose;
 use message_state::Act;
@@ -17,7 +17,7 @@ fn mark(alloc: Global, act: Act, desk: &Desk, words: &[Text]) -> Result<Steps, R
 {
     let numbers = chosen(alloc, words, desk, Purpose::Live)?;
     let effects = marked_and_written(alloc, act, numbers.items())?;
-    Ok(quietly(alloc, effects))
+    Ok(effects_alone(alloc, effects))
 }
 
 /// `hold`, `preserve`: messages that stay in the system mailbox as it is left.

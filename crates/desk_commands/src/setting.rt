@@ -6,7 +6,7 @@ ghost use Rattle.command_desk.specs.Answers.{Means, IsRefusedBy};
 ghost use Rattle.command_desk.specs.Desks.{IsDesk, IsWithin};
 ghost use Rattle.desk_commands.specs.Setting.{setting_line, IsSplit, unsets, unsetting, setting_of, line_of_change, are_few, first_refusal, first_apart, refusal_line, sets, set, unset};
 
-use command_desk::{Desk, Effects, Refusal, Steps, fault, quietly, says, unchanged};
+use command_desk::{Desk, Effects, Refusal, Steps, effects_alone, fault, says, unchanged};
 use mail_text::{Items, Memory, Text};
 use mailx_vars::{Setting, VarError, Vars};
 use std::alloc::Global;
@@ -215,7 +215,7 @@ pub fn set(alloc: Global, desk: &Desk, words: &[Text]) -> Result<Steps, Refusal>
     }
     let settings = settings_of(alloc, words)?;
     accepts_all(alloc, &desk.vars, settings.items())?;
-    Ok(quietly(alloc, sets(alloc, settings)))
+    Ok(effects_alone(alloc, sets(alloc, settings)))
 }
 
 // What unsets these variables.
@@ -239,5 +239,5 @@ pub fn unset(alloc: Global, desk: &Desk, words: &[Text]) -> Result<Steps, Refusa
         return Err(fault(alloc, b"unset", b": bad arguments"));
     }
     let settings = unset_all(alloc, words)?;
-    Ok(quietly(alloc, sets(alloc, settings)))
+    Ok(effects_alone(alloc, sets(alloc, settings)))
 }

@@ -9,9 +9,9 @@ use Rattle.folder_change.specs.Apply.{Files, after, apply}
 use Rattle.folder_change.specs.Changes.{name_of}
 use Rattle.folder_change.specs.Outcomes.{bytes_of, missing_feeds, outcome_of}
 use Rattle.folder_change.proofs.ApplyLemmas.{after-here, after-other}
-use Rattle.quit_rules.specs.declared.gathered.What.{What}
-use Rattle.quit_rules.specs.declared.gathered.What.TheVariants.{Texts, Bytes}
-use Rattle.quit_rules.specs.declared.gathered.Gathered.{Gathered}
+use Rattle.quit_rules.specs.declared.gathered.Payload.{Payload}
+use Rattle.quit_rules.specs.declared.gathered.Payload.TheVariants.{Texts, Bytes}
+use Rattle.quit_rules.specs.declared.gathered.BatchItem.{BatchItem}
 use Rattle.quit_rules.specs.Gathering.{change_of, gathered_changes, put}
 use Rattle.command_desk.specs.declared.naming.Naming.{Naming}
 use Rattle.command_desk.specs.declared.naming.Naming.TheVariants as naming
@@ -20,7 +20,7 @@ use Rattle.filing_laws.specs.Saving.{StandsIn}
 use Rattle.filing_laws.specs.Gathering.{put_bytes, GatheredStays, GatheredIsPut}
 use Rattle.filing_laws.proofs.Places.{stands_before, stands_last}
 
-more_gathered : (change : Option Naming) (gathered : List Gathered) → (more : List Gathered) × (gathered_after change gathered ≡ gathered ++ more)
+more_gathered : (change : Option Naming) (gathered : List BatchItem) → (more : List BatchItem) × (gathered_after change gathered ≡ gathered ++ more)
 more_gathered None gathered = ([], sym (append-nil gathered))
 more_gathered (Some (naming.Gather one)) gathered = (one ∷ [], refl)
 more_gathered (Some (naming.Alias name members)) gathered = ([], sym (append-nil gathered))
@@ -51,22 +51,22 @@ pub raw_here : (name bytes : List ℕ) (base : List (List ℕ)) (files : Files) 
 unfolding outcome_of
 raw_here name bytes base files = after-here files (AddRaw name bytes) base (Some (bytes_of (files name) ++ bytes)) refl
 
-put_on : (name : List ℕ) (what : What) (base : List (List ℕ)) (files : Files) → Puts (bytes_of (files name)) (bytes_of (after files (put name what) base name)) (put_bytes what)
+put_on : (name : List ℕ) (what : Payload) (base : List (List ℕ)) (files : Files) → Puts (bytes_of (files name)) (bytes_of (after files (put name what) base name)) (put_bytes what)
 put_on name (Texts texts) base files = record {
   between = missing_feeds (bytes_of (files name));
   is = ap bytes_of (added_here name texts base files) ∙ append_assoc (bytes_of (files name)) (missing_feeds (bytes_of (files name))) (join texts);
 }
 put_on name (Bytes bytes) base files = record { between = []; is = ap bytes_of (raw_here name bytes base files) }
 
-put_name : (one : Gathered) → name_of (change_of one) ≡ one.name
+put_name : (one : BatchItem) → name_of (change_of one) ≡ one.name
 put_name one = go one.what
   where
-    go : (what : What) → name_of (put one.name what) ≡ one.name
+    go : (what : Payload) → name_of (put one.name what) ≡ one.name
     go (Texts texts) = refl
     go (Bytes bytes) = refl
 
 -- what stands in a file stays when one thing more is put
-stays_once : (part name : List ℕ) (one : Gathered) (base : List (List ℕ)) (files : Files)
+stays_once : (part name : List ℕ) (one : BatchItem) (base : List (List ℕ)) (files : Files)
     → StandsIn part (bytes_of (files name)) → StandsIn part (bytes_of (after files (change_of one) base name))
 stays_once part name one base files s = go (bytes_eq name one.name) refl
   where
@@ -83,26 +83,26 @@ stays_once part name one base files s = go (bytes_eq name one.name) refl
         let other : name ≢ name_of (change_of one) = λ same. false≢true (sym is ∙ (bytes_eq-Decides name one.name).1 (same ∙ put_name one)) in
         subst (λ (f : Option (List ℕ)). StandsIn part (bytes_of f)) (sym (after-other files (change_of one) base name other)) s
 
-stays_all : (part name : List ℕ) (gathered : List Gathered) (base : List (List ℕ)) (files : Files)
+stays_all : (part name : List ℕ) (gathered : List BatchItem) (base : List (List ℕ)) (files : Files)
     → StandsIn part (bytes_of (files name)) → StandsIn part (bytes_of (apply (gathered_changes gathered) base files name))
 unfolding apply
 stays_all part name [] base files s = s
 stays_all part name (one ∷ more) base files s = stays_all part name more base (after files (change_of one) base) (stays_once part name one base files s)
 
 -- one thing is put
-put_once : (one : Gathered) (base : List (List ℕ)) (files : Files) → StandsIn (put_bytes one.what) (bytes_of (after files (change_of one) base one.name))
+put_once : (one : BatchItem) (base : List (List ℕ)) (files : Files) → StandsIn (put_bytes one.what) (bytes_of (after files (change_of one) base one.name))
 put_once one base files =
     let p = put_on one.name one.what base files in
     subst (StandsIn (put_bytes one.what)) (sym (p.is ∙ sym (append_assoc (bytes_of (files one.name)) p.between (put_bytes one.what))))
     (stands_last (bytes_of (files one.name) ++ p.between) (put_bytes one.what))
 
-all_put : (one : Gathered) (gathered : List Gathered) (base : List (List ℕ)) (files : Files) (k : ℕ) → k < length gathered → get_or gathered k one ≡ one
+all_put : (one : BatchItem) (gathered : List BatchItem) (base : List (List ℕ)) (files : Files) (k : ℕ) → k < length gathered → get_or gathered k one ≡ one
     → StandsIn (put_bytes one.what) (bytes_of (apply (gathered_changes gathered) base files one.name))
 unfolding apply
 all_put one [] base files k within is = absurd (omega arith)
 all_put one (g ∷ gs) base files zero within is =
     stays_all (put_bytes one.what) one.name gs base (after files (change_of g) base)
-    (subst (λ (x : Gathered). StandsIn (put_bytes one.what) (bytes_of (after files (change_of x) base one.name))) (sym is) (put_once one base files))
+    (subst (λ (x : BatchItem). StandsIn (put_bytes one.what) (bytes_of (after files (change_of x) base one.name))) (sym is) (put_once one base files))
 all_put one (g ∷ gs) base files (suc k) within is = all_put one gs base (after files (change_of g) base) k (omega arith) is
 
 pub gathered_is_put : GatheredIsPut

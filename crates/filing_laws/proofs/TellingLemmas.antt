@@ -8,9 +8,9 @@ use Rattle.mbox_scan.specs.Mailbox.{join, two_feeds}
 use Rattle.folder_change.specs.declared.change.Change.{Change}
 use Rattle.folder_change.specs.Apply.{Files, after, apply}
 use Rattle.folder_change.specs.Outcomes.{bytes_of, missing_feeds}
-use Rattle.quit_rules.specs.declared.gathered.What.{What}
-use Rattle.quit_rules.specs.declared.gathered.What.TheVariants.{Texts, Bytes}
-use Rattle.quit_rules.specs.declared.gathered.Gathered.{Gathered}
+use Rattle.quit_rules.specs.declared.gathered.Payload.{Payload}
+use Rattle.quit_rules.specs.declared.gathered.Payload.TheVariants.{Texts, Bytes}
+use Rattle.quit_rules.specs.declared.gathered.BatchItem.{BatchItem}
 use Rattle.quit_rules.specs.Gathering.{change_of, gathered_changes, put}
 use Rattle.quit_rules.specs.Plans.{boxed, leaving_changes, staying}
 use Rattle.command_desk.specs.declared.desk.Desk.{Desk}
@@ -42,7 +42,7 @@ gathered_is_told desk one at = record {
   told =
       let boxes = counted desk.places.mbox (codes "Saved") (length (boxed desk.folder desk.vars)) in
       stands_before one.reply (replies desk.gathered ++ boxes) (counted desk.folder.name (codes "Held") (length (staying desk.folder desk.vars)))
-      (stands_before one.reply (replies desk.gathered) boxes (stands_in_flat (λ (g : Gathered). g.reply) desk.gathered one at));
+      (stands_before one.reply (replies desk.gathered) boxes (stands_in_flat (λ (g : BatchItem). g.reply) desk.gathered one at));
 }
 
 -- ---- what is put
@@ -61,7 +61,7 @@ missing_are_feeds b = go (length b == 0 || ends_with nat_eq b two_feeds) (ends_w
     go false true = one_feed
     go false false = All-cons IsFeed 10 (10 ∷ []) refl one_feed
 
-put_last : (name : List ℕ) (what : What) (base : List (List ℕ)) (files : Files)
+put_last : (name : List ℕ) (what : Payload) (base : List (List ℕ)) (files : Files)
     → EndsWith (bytes_of (files name)) (put_bytes what) (bytes_of (after files (put name what) base name))
 put_last name (Texts texts) base files = record {
   between = missing_feeds (bytes_of (files name));

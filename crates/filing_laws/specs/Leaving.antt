@@ -7,7 +7,7 @@ use Rattle.folder_change.specs.Apply.{Files, apply}
 use Rattle.folder_change.specs.Changes.{name_of}
 use Rattle.folder_change.specs.ListLaws.{list_of_file}
 use Rattle.quit_rules.specs.declared.open.Open.{Open}
-use Rattle.quit_rules.specs.declared.gathered.Gathered.{Gathered}
+use Rattle.quit_rules.specs.declared.gathered.BatchItem.{BatchItem}
 use Rattle.quit_rules.specs.Gathering.{gathered_changes}
 use Rattle.quit_rules.specs.Plans.{messages_of, stamped_text, staying, boxed, leaving_changes, quit_changes}
 
@@ -18,7 +18,7 @@ with_boxed vars texts there = if is_set vars (codes "append") then there ++ text
 -- A folder is left whose bytes are a mailbox, and mbox is another file, and a mailbox once what was gathered was put into its files. Then mbox has the
 -- texts that go there, and all that stood there then.
 abbrev pub QuitsFillMbox : Type 0
-QuitsFillMbox = (folder : Open) (vars : Settings) (mbox : List ℕ) (gathered : List Gathered) (base there : List (List ℕ)) (files : Files)
+QuitsFillMbox = (folder : Open) (vars : Settings) (mbox : List ℕ) (gathered : List BatchItem) (base there : List (List ℕ)) (files : Files)
     → is_mailbox folder.folder ≡ true → folder.name ≢ mbox
     → list_of_file (apply (gathered_changes gathered) base files mbox) ≡ Some there
     → list_of_file (apply (quit_changes folder vars mbox gathered) base files mbox) ≡ Some (with_boxed vars (boxed folder vars) there)

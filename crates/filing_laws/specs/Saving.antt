@@ -2,8 +2,8 @@
 use Rattle.std.specs.Prelude.{◌≡◌, ◌⊎◌, ◌+◌, ℕ, List, ◌++◌}
 use Rattle.std.specs.List.{Contains}
 use Rattle.std.specs.declared.result.Result.TheVariants.{Ok}
-use Rattle.quit_rules.specs.declared.gathered.What.{What}
-use Rattle.quit_rules.specs.declared.gathered.What.TheVariants.{Texts, Bytes}
+use Rattle.quit_rules.specs.declared.gathered.Payload.{Payload}
+use Rattle.quit_rules.specs.declared.gathered.Payload.TheVariants.{Texts, Bytes}
 use Rattle.command_desk.specs.declared.desk.Desk.{Desk}
 use Rattle.command_desk.specs.declared.effects.Marking.{Marking}
 use Rattle.command_desk.specs.Desks.{message_text, IsMessageOf}
@@ -17,7 +17,7 @@ pub record StandsIn (part bytes : List ℕ) : Type 0 where
   pub is : bytes ≡ front ++ (part ++ back)
 
 -- message n is in what is put: its text is one of the texts, or its body with a line feed stands in the bytes
-abbrev pub IsIn : What → Desk → ℕ → Type 0
+abbrev pub IsIn : Payload → Desk → ℕ → Type 0
 IsIn (Texts texts) desk n = Contains texts (message_text desk n)
 IsIn (Bytes bytes) desk n = StandsIn (body_line desk n) bytes
 

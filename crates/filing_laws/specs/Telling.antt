@@ -4,7 +4,7 @@ use Rattle.std.specs.List.{Contains}
 use Rattle.folder_change.specs.declared.change.Change.{Change}
 use Rattle.folder_change.specs.Apply.{Files, apply}
 use Rattle.folder_change.specs.Outcomes.{bytes_of}
-use Rattle.quit_rules.specs.declared.gathered.Gathered.{Gathered}
+use Rattle.quit_rules.specs.declared.gathered.BatchItem.{BatchItem}
 use Rattle.quit_rules.specs.Gathering.{change_of}
 use Rattle.command_desk.specs.declared.desk.Desk.{Desk}
 use Rattle.command_desk.specs.declared.steps.Ask.{Ask}
@@ -28,12 +28,12 @@ abbrev pub QuitsTellBehind : Type 0
 QuitsTellBehind = (desk : Desk) (change : Change) → Contains (changes_of desk) change → SaysBehind change (quit desk).asks
 
 -- the change of what was gathered is one of those by which the folder is left, and what is printed then has its reply
-pub record IsTold (desk : Desk) (one : Gathered) : Type 0 where
+pub record IsTold (desk : Desk) (one : BatchItem) : Type 0 where
   pub changed : Contains (changes_of desk) (change_of one)
   pub told : StandsIn one.reply (left_reply desk)
 
 abbrev pub GatheredIsTold : Type 0
-GatheredIsTold = (desk : Desk) (one : Gathered) → Contains desk.gathered one → IsTold desk one
+GatheredIsTold = (desk : Desk) (one : BatchItem) → Contains desk.gathered one → IsTold desk one
 
 -- the bytes are those that were there before and, with line feeds at most between them, these at the end
 pub record EndsWith (before part now : List ℕ) : Type 0 where
@@ -43,5 +43,5 @@ pub record EndsWith (before part now : List ℕ) : Type 0 where
 
 -- once the change of what is put is made, its file has all that it had, and ends with it
 abbrev pub PutIsAtTheEnd : Type 0
-PutIsAtTheEnd = (one : Gathered) (base : List (List ℕ)) (files : Files)
+PutIsAtTheEnd = (one : BatchItem) (base : List (List ℕ)) (files : Files)
     → EndsWith (bytes_of (files one.name)) (put_bytes one.what) (bytes_of (apply (change_of one ∷ []) base files one.name))

@@ -2,7 +2,7 @@
 use Rattle.std.specs.Prelude.{ℕ, ◌==◌, List, [], ◌∷◌, ◌++◌, length, codes, if◌then◌else◌}
 use Rattle.std.specs.List.{flat_map}
 use Rattle.folder_change.specs.declared.change.Change.{Change}
-use Rattle.quit_rules.specs.declared.gathered.Gathered.{Gathered}
+use Rattle.quit_rules.specs.declared.gathered.BatchItem.{BatchItem}
 use Rattle.quit_rules.specs.Plans.{staying, boxed, quit_changes}
 use Rattle.command_desk.specs.declared.desk.Desk.{Desk}
 use Rattle.command_desk.specs.declared.steps.Ask.{Ask}
@@ -16,7 +16,7 @@ abbrev pub changes_of : Desk → List Change
 changes_of desk = quit_changes desk.folder desk.vars desk.places.mbox desk.gathered
 
 -- the replies of what was gathered, in order
-abbrev pub replies : List Gathered → List ℕ
+abbrev pub replies : List BatchItem → List ℕ
 replies gathered = flat_map (λ g. g.reply) gathered
 
 -- the line of what became of `count` messages, if there are any

@@ -6,7 +6,7 @@ use Rattle.std.specs.declared.result.Result.{Result}
 use Rattle.std.specs.declared.result.Result.TheVariants.{Ok, Err}
 use Rattle.mail_text.specs.Lines.{with_feed}
 use Rattle.mail_headers.specs.Header.{body_of}
-use Rattle.quit_rules.specs.declared.gathered.What.TheVariants.{Texts, Bytes}
+use Rattle.quit_rules.specs.declared.gathered.Payload.TheVariants.{Texts, Bytes}
 use Rattle.message_state.specs.declared.mark.Act.{Act}
 use Rattle.message_state.specs.declared.mark.Act.TheVariants.{Look, Save}
 use Rattle.message_list.specs.declared.list.Purpose.TheVariants.{Live}

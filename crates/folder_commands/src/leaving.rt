@@ -7,11 +7,11 @@ use crate::saving::receipt;
 use command_desk::{Ask, Desk, Steps, unchanged};
 use folder_change::Change;
 use mail_text::{Items, Memory, Text};
-use quit_rules::{Gathered, boxed, kept, quit_changes};
+use quit_rules::{BatchItem, boxed, kept, quit_changes};
 use std::alloc::Global;
 
 // Puts the replies of what was gathered.
-fn put_replies(out: &mut Text, gathered: &[Gathered]) -> Result<(), Memory>
+fn put_replies(out: &mut Text, gathered: &[BatchItem]) -> Result<(), Memory>
     ensures { OnOk result (out.new ≡ out.old ++ replies gathered.now) }
 {
     for one in gathered {

@@ -15,7 +15,7 @@ use mail_headers::Header;
 use mail_text::{Items, Memory, Text};
 use message_list::Purpose;
 use message_state::Act;
-use quit_rules::{Gathered, What};
+use quit_rules::{BatchItem, Payload};
 use std::alloc::Global;
 
 /// What is printed once `count` messages were put into the file of this name.
@@ -89,9 +89,9 @@ fn adding(
     let texts = texts_of(alloc, desk, numbers)?;
     let effects = marked(alloc, desk, act, numbers)?;
     Ok(Filing {
-        put: Gathered {
+        put: BatchItem {
             name,
-            what: What::Texts(texts),
+            what: Payload::Texts(texts),
             reply,
         },
         effects,
@@ -110,9 +110,9 @@ fn writing(alloc: Global, desk: &Desk, numbers: &[u32], name: Text) -> Result<Fi
     let bytes = bodies_of(alloc, desk, numbers)?;
     let effects = marked(alloc, desk, Act::Save, numbers)?;
     Ok(Filing {
-        put: Gathered {
+        put: BatchItem {
             name,
-            what: What::Bytes(bytes),
+            what: Payload::Bytes(bytes),
             reply,
         },
         effects,

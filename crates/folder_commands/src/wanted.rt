@@ -1,11 +1,11 @@
 use command_desk::Effects;
-use quit_rules::Gathered;
+use quit_rules::BatchItem;
 
 /// What a command puts into a file, and what follows once that was done.
 #[derive(Drop)]
 pub struct Filing {
     /// What is put at the end of the file, and what is printed then.
-    pub put: Gathered,
+    pub put: BatchItem,
     /// What is changed then.
     pub effects: Effects,
 }

@@ -9,7 +9,7 @@ use folder_change::Change;
 use mail_text::{Items, Memory, Text};
 use mailx_vars::Vars;
 use message_state::Mark;
-use quit_rules::{Gathered, Gathering, Open, What, boxed, kept, quit_changes};
+use quit_rules::{Batch, BatchItem, Open, Payload, boxed, kept, quit_changes};
 
 /// The folder of a text with these marks, the system mailbox if the kind says so: how many messages stay and how
 /// many go to mbox, and the changes. If a file is named, the text after its name is gathered for it, as bytes if `raw`
@@ -52,29 +52,29 @@ fn put_open(opened: &Open, vars: &Vars, case: &[Text], out: &mut Answer) {
 }
 
 // What is put into the file that is named.
-fn what(case: &[Text], out: &mut Answer) -> What {
+fn what(case: &[Text], out: &mut Answer) -> Payload {
     let text = out.copied(field(case, 5));
     if words(case, 6) == "raw" {
-        return What::Bytes(text);
+        return Payload::Bytes(text);
     }
     let mut texts = Items::new(out.alloc());
     out.note(texts.push(text));
-    What::Texts(texts)
+    Payload::Texts(texts)
 }
 
 // What is gathered, if a file is named.
-fn gathering(case: &[Text], out: &mut Answer) -> Gathering {
-    let mut gathering = Gathering::new(out.alloc());
+fn gathering(case: &[Text], out: &mut Answer) -> Batch {
+    let mut gathering = Batch::new(out.alloc());
     if !field(case, 4).is_empty() {
         let name = out.copied(field(case, 4));
         let what = what(case, out);
         let reply = out.copied(b"");
-        out.note(gathering.push(Gathered { name, what, reply }));
+        out.note(gathering.push(BatchItem { name, what, reply }));
     }
     gathering
 }
 
-fn put_quit(opened: &Open, vars: &Vars, gathered: &[Gathered], out: &mut Answer)
+fn put_quit(opened: &Open, vars: &Vars, gathered: &[BatchItem], out: &mut Answer)
     requires { IsOpen opened.now }
 {
     out.put_shown(&kept(opened, vars));

@@ -18,7 +18,7 @@ use Rattle.rc_conditionals.specs.declared.conditions.Condition.{Condition}
 use Rattle.rc_conditionals.specs.declared.error.CondError.{CondError}
 use Rattle.rc_conditionals.specs.Turns.{is_live, turned}
 use Rattle.command_desk.specs.declared.desk.Desk.{Desk}
-use Rattle.command_desk.specs.Answers.{next, unless, quietly}
+use Rattle.command_desk.specs.Answers.{next, unless, effects_alone}
 use Rattle.command_desk.specs.Effects.{unchanged}
 use Rattle.command_desk.specs.Faults.{bad_arguments}
 use Rattle.desk_commands.specs.Conditions.{turns_or_fault, opening, turning_alone}
@@ -92,7 +92,7 @@ dead-brings : (from : Origin) (desk : Desk) (line : List ℕ) → not (is_live d
 dead-brings from desk line dead = go (is_live desk.conditions) (turns_lines line) refl dead
   where
     go : (live turns : Bool) → turns_lines line ≡ turns → not live ≡ true
-        → brings_lines (if not live && not turns then quietly unchanged else next (read_from from line) (λ c. meaning c desk)) ≡ false
+        → brings_lines (if not live && not turns then effects_alone unchanged else next (read_from from line) (λ c. meaning c desk)) ≡ false
     go true turns is h = absurd (cc h)
     go false false is h = refl
     go false true is h = read-brings from desk line is

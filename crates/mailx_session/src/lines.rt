@@ -44,7 +44,7 @@ fn settle(state: &mut SessionState, depth: usize, effects: Effects) -> Result<()
     ensures err { IfErr result (λ e. e ≡ RunError.Memory) }
     ensures back { OnErr result (state.new ≡ with_frames state.old (take depth state.old.frames)) }
 {
-    match state.desk.settle(effects) {
+    match state.desk.apply(effects) {
         Ok(()) => Ok(()),
         Err(Memory) => {
             state.frames.cut(depth);

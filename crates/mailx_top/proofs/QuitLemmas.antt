@@ -20,9 +20,9 @@ use Rattle.session_play.specs.Committing.{Commit}
 use Rattle.play_safety.specs.Appended.{IsOnlyOne, Adds, nothing, passes, puts, AddsAndRewrites, IsRewritten}
 use Rattle.play_safety.proofs.AppendedLemmas.{others-left, rewrites-followed, adds-follow, adds-followed}
 use Rattle.quit_rules.specs.declared.open.Open.{Open}
-use Rattle.quit_rules.specs.declared.gathered.Gathered.{Gathered}
-use Rattle.quit_rules.specs.declared.gathered.What.{What}
-use Rattle.quit_rules.specs.declared.gathered.What.TheVariants.{Texts, Bytes}
+use Rattle.quit_rules.specs.declared.gathered.BatchItem.{BatchItem}
+use Rattle.quit_rules.specs.declared.gathered.Payload.{Payload}
+use Rattle.quit_rules.specs.declared.gathered.Payload.TheVariants.{Texts, Bytes}
 use Rattle.quit_rules.specs.Gathering.{change_of, gathered_changes, put}
 use Rattle.quit_rules.specs.Fates.{fate_of, is_staying, rules_of}
 use Rattle.quit_rules.specs.Plans.{Message, boxed, folder_changes, mbox_change, mbox_changes, messages_of, quit_changes, same_texts, stamped_text, staying}
@@ -64,38 +64,38 @@ mbox-apart here n mbox texts vars apart = go (length texts == 0)
         (All-nil (λ (other : Change). n ≢ name_of other))
 
 -- what was gathered for other files changes those
-put-apart : (here n name : List ℕ) (what : What) → n ≢ placed here name → n ≢ name_of (placed_change here (put name what))
+put-apart : (here n name : List ℕ) (what : Payload) → n ≢ placed here name → n ≢ name_of (placed_change here (put name what))
 put-apart here n name (Texts texts) apart = apart
 put-apart here n name (Bytes bytes) apart = apart
 
-gathered-apart : (here n : List ℕ) (gathered : List Gathered) → All (λ (one : Gathered). n ≢ placed here one.name) gathered
+gathered-apart : (here n : List ℕ) (gathered : List BatchItem) → All (λ (one : BatchItem). n ≢ placed here one.name) gathered
     → All (λ (other : Change). n ≢ name_of other) (placed_changes here (gathered_changes gathered))
 gathered-apart here n [] apart = All-nil (λ (other : Change). n ≢ name_of other)
 gathered-apart here n (one ∷ more) apart =
     All-cons (λ (other : Change). n ≢ name_of other) (placed_change here (change_of one)) (placed_changes here (gathered_changes more))
-    (put-apart here n one.name one.what (All-head (λ (one : Gathered). n ≢ placed here one.name) one more apart))
-    (gathered-apart here n more (All-tail (λ (one : Gathered). n ≢ placed here one.name) one more apart))
+    (put-apart here n one.name one.what (All-head (λ (one : BatchItem). n ≢ placed here one.name) one more apart))
+    (gathered-apart here n more (All-tail (λ (one : BatchItem). n ≢ placed here one.name) one more apart))
 
 -- what stands before the change of the folder: what was gathered, and the change of mbox
-abbrev before_folder : Open → Settings → List ℕ → List Gathered → List Change
+abbrev before_folder : Open → Settings → List ℕ → List BatchItem → List Change
 before_folder folder vars mbox gathered = gathered_changes gathered ++ mbox_changes (boxed folder vars) vars mbox
 
-before-apart : (here n : List ℕ) (folder : Open) (vars : Settings) (mbox : List ℕ) (gathered : List Gathered) → n ≢ placed here mbox
-    → All (λ (one : Gathered). n ≢ placed here one.name) gathered → All (λ (other : Change). n ≢ name_of other) (placed_changes here (before_folder folder vars mbox gathered))
+before-apart : (here n : List ℕ) (folder : Open) (vars : Settings) (mbox : List ℕ) (gathered : List BatchItem) → n ≢ placed here mbox
+    → All (λ (one : BatchItem). n ≢ placed here one.name) gathered → All (λ (other : Change). n ≢ name_of other) (placed_changes here (before_folder folder vars mbox gathered))
 before-apart here n folder vars mbox gathered apart elsewhere =
     subst (All (λ (other : Change). n ≢ name_of other)) (sym (map-append (placed_change here) (gathered_changes gathered) (mbox_changes (boxed folder vars) vars mbox)))
     (All-append (λ (other : Change). n ≢ name_of other) (placed_changes here (gathered_changes gathered)) (placed_changes here (mbox_changes (boxed folder vars) vars mbox))
     (gathered-apart here n gathered elsewhere) (mbox-apart here n mbox (boxed folder vars) vars apart))
 
 -- the changes of a quit are these, and then that of the folder
-quit-parts : (folder : Open) (vars : Settings) (mbox : List ℕ) (gathered : List Gathered)
+quit-parts : (folder : Open) (vars : Settings) (mbox : List ℕ) (gathered : List BatchItem)
     → quit_changes folder vars mbox gathered ≡ before_folder folder vars mbox gathered ++ folder_changes (staying folder vars) folder vars
 quit-parts folder vars mbox gathered =
     sym (append_assoc (gathered_changes gathered) (mbox_changes (boxed folder vars) vars mbox) (folder_changes (staying folder vars) folder vars))
 
-pub folder-once : (here : List ℕ) (folder : Open) (vars : Settings) (mbox : List ℕ) (gathered : List Gathered)
+pub folder-once : (here : List ℕ) (folder : Open) (vars : Settings) (mbox : List ℕ) (gathered : List BatchItem)
     → same_texts (staying folder vars) (texts_of folder.folder) ≡ false → placed here folder.name ≢ placed here mbox
-    → All (λ (one : Gathered). placed here folder.name ≢ placed here one.name) gathered
+    → All (λ (one : BatchItem). placed here folder.name ≢ placed here one.name) gathered
     → IsOnlyOne (Rewrite (placed here folder.name) (staying folder vars) (is_set vars (codes "keep"))) (placed_changes here (quit_changes folder vars mbox gathered))
 folder-once here folder vars mbox gathered rewrites apart elsewhere = record {
   front = placed_changes here (before_folder folder vars mbox gathered);
@@ -126,7 +126,7 @@ quits-keep start env status d es safe front behind e now c s left decides alone 
     mbox : List ℕ
     mbox = s.desk.places.mbox
 
-    gathered : List Gathered
+    gathered : List BatchItem
     gathered = s.desk.gathered
 
     file : List ℕ
@@ -179,7 +179,7 @@ adds-then (passes away adds) others apart = passes away (adds-then adds others a
 adds-then (puts proper adds) others apart = puts proper (adds-then adds others apart)
 
 -- what stands before the change of the folder adds what was gathered to it
-before-adds : (here n : List ℕ) (folder : Open) (vars : Settings) (mbox : List ℕ) (gathered : List Gathered) (texts : List (List ℕ)) → n ≢ placed here mbox
+before-adds : (here n : List ℕ) (folder : Open) (vars : Settings) (mbox : List ℕ) (gathered : List BatchItem) (texts : List (List ℕ)) → n ≢ placed here mbox
     → Adds n (placed_changes here (gathered_changes gathered)) texts → Adds n (placed_changes here (before_folder folder vars mbox gathered)) texts
 before-adds here n folder vars mbox gathered texts apart adds =
     subst (λ (cs : List Change). Adds n cs texts) (sym (map-append (placed_change here) (gathered_changes gathered) (mbox_changes (boxed folder vars) vars mbox)))

@@ -13,7 +13,7 @@ use Rattle.quit_rules.specs.declared.fate.Fate.{Fate}
 use Rattle.quit_rules.specs.declared.fate.Rules.{Rules}
 use Rattle.quit_rules.specs.declared.open.Open.{Open}
 use Rattle.quit_rules.specs.declared.plan.Parts.{Parts}
-use Rattle.quit_rules.specs.declared.gathered.Gathered.{Gathered}
+use Rattle.quit_rules.specs.declared.gathered.BatchItem.{BatchItem}
 use Rattle.quit_rules.specs.Gathering.{gathered_changes}
 use Rattle.quit_rules.specs.Fates.{rules_of, fate_of, is_staying, is_boxed}
 
@@ -67,7 +67,7 @@ abbrev pub leaving_changes : Open → Settings → List ℕ → List Change
 leaving_changes folder vars mbox = mbox_changes (boxed folder vars) vars mbox ++ folder_changes (staying folder vars) folder vars
 
 -- the changes of a quit: first what was gathered, in order, then those by which the folder is left
-abbrev pub quit_changes : Open → Settings → List ℕ → List Gathered → List Change
+abbrev pub quit_changes : Open → Settings → List ℕ → List BatchItem → List Change
 quit_changes folder vars mbox gathered = gathered_changes gathered ++ leaving_changes folder vars mbox
 
 -- the message stays and has the letters and the flags of its mark

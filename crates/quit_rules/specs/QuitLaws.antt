@@ -4,7 +4,7 @@ use Rattle.message_state.specs.declared.mark.State.TheVariants.{Deleted, Saved}
 use Rattle.message_state.specs.States.{place}
 use Rattle.mailx_vars.specs.Settings.{Settings, is_set}
 use Rattle.quit_rules.specs.declared.open.Open.{Open}
-use Rattle.quit_rules.specs.declared.gathered.Gathered.{Gathered}
+use Rattle.quit_rules.specs.declared.gathered.BatchItem.{BatchItem}
 use Rattle.quit_rules.specs.Gathering.{gathered_changes}
 use Rattle.quit_rules.specs.Fates.{rules_of, fate_of, is_staying}
 use Rattle.quit_rules.specs.Plans.{Message, messages_of, stamped_text, staying, boxed, quit_changes, IsOpen}
@@ -44,5 +44,5 @@ pub record StaysAsItIs (folder : Open) (vars : Settings) (m : Message) : Type 0 
 
 -- if each message stays as it is, nothing is changed but what was gathered
 abbrev pub UnchangedIsLeft : Type 0
-UnchangedIsLeft = (folder : Open) (vars : Settings) (mbox : List ℕ) (gathered : List Gathered) → IsOpen folder
+UnchangedIsLeft = (folder : Open) (vars : Settings) (mbox : List ℕ) (gathered : List BatchItem) → IsOpen folder
     → All (StaysAsItIs folder vars) (messages_of folder) → quit_changes folder vars mbox gathered ≡ gathered_changes gathered

@@ -12,7 +12,7 @@ const MOST_FILES: usize = 254;
 
 /// What is put at the end of a file.
 #[derive(Drop)]
-pub enum What {
+pub enum Payload {
     /// The texts of messages.
     Texts(Items<Text>),
     /// Bytes, as they are.
@@ -21,11 +21,11 @@ pub enum What {
 
 /// What is put at the end of a file, now or when the folder is left.
 #[derive(Drop)]
-pub struct Gathered {
+pub struct BatchItem {
     /// The name of the file. It may be one that no file can have.
     pub name: Text,
     /// What is put there.
-    pub what: What,
+    pub what: Payload,
     /// What is printed once that was done.
     pub reply: Text,
 }
@@ -41,18 +41,18 @@ fn copies(alloc: Global, texts: &[Text]) -> Result<Items<Text>, Memory>
     Ok(copies)
 }
 
-impl Gathered {
+impl BatchItem {
     /// The change of the file.
     pub fn change(&self, alloc: Global) -> Result<Change, Memory>
         ensures { IfOk result (λ change. change ≡ change_of self.now) }
     {
         let name = Text::copy(alloc, self.name.bytes())?;
         match &self.what {
-            What::Texts(texts) => {
+            Payload::Texts(texts) => {
                 let texts = copies(alloc, texts.items())?;
                 Ok(Change::Add { name, texts })
             }
-            What::Bytes(bytes) => {
+            Payload::Bytes(bytes) => {
                 let bytes = Text::copy(alloc, bytes.bytes())?;
                 Ok(Change::AddRaw { name, bytes })
             }
@@ -64,16 +64,16 @@ impl Gathered {
         ensures change { result.0 ≡ change_of self }
         ensures reply { result.1 ≡ self.reply }
     {
-        let Gathered { name, what, reply } = self;
+        let BatchItem { name, what, reply } = self;
         match what {
-            What::Texts(texts) => (Change::Add { name, texts }, reply),
-            What::Bytes(bytes) => (Change::AddRaw { name, bytes }, reply),
+            Payload::Texts(texts) => (Change::Add { name, texts }, reply),
+            Payload::Bytes(bytes) => (Change::AddRaw { name, bytes }, reply),
         }
     }
 }
 
 /// The changes of what was gathered, in order.
-pub(crate) fn gathered_changes(alloc: Global, gathered: &[Gathered]) -> Result<Vec<Change>, Memory>
+pub(crate) fn gathered_changes(alloc: Global, gathered: &[BatchItem]) -> Result<Vec<Change>, Memory>
     ensures { IfOk result (λ changes. changes.items ≡ gathered_changes gathered.now) }
 {
     let mut changes = Vec::new(alloc);
@@ -103,30 +103,30 @@ fn note(alloc: Global, names: &mut Items<Text>, name: &[u8]) -> Result<(), Memor
 
 /// What was gathered, in order. Contracts see the list of it; the names of its files are kept beside it.
 #[derive(Drop)]
-pub struct Gathering {
+pub struct Batch {
     alloc: Global,
-    list: Reserved<Gathered>,
+    list: Reserved<BatchItem>,
     names: Items<Text>,
 }
 
-impl Model for Gathering {
+impl Model for Batch {
     ghost use Rattle.std.specs.Prelude.{◌≡◌, List};
-    ghost use Rattle.quit_rules.specs.declared.gathered.Gathered.{Gathered};
+    ghost use Rattle.quit_rules.specs.declared.gathered.BatchItem.{BatchItem};
     ghost use Rattle.quit_rules.specs.Gathering.{names_of};
 
-    ghost Value = { List Gathered };
+    ghost Value = { List BatchItem };
 
     ghost view = { λ g. g.list.items };
 
     ghost invariant = { λ g. g.names ≡ names_of g.list.items };
 }
 
-impl Gathering {
+impl Batch {
     /// Nothing was gathered. It takes no memory.
-    pub fn new(alloc: Global) -> Gathering
+    pub fn new(alloc: Global) -> Batch
         ensures { result ≡ [] }
     {
-        Gathering {
+        Batch {
             alloc,
             list: Reserved::new(alloc),
             names: Items::new(alloc),
@@ -134,7 +134,7 @@ impl Gathering {
     }
 
     /// What was gathered.
-    pub fn items(&self) -> &[Gathered]
+    pub fn items(&self) -> &[BatchItem]
         ensures { result.now ≡ self.now }
     {
         self.list.items()
@@ -149,7 +149,7 @@ impl Gathering {
     }
 
     /// Gathers one more, in as much time as there are files. If memory runs out, all is as before.
-    pub fn push(&mut self, gathered: Gathered) -> Result<(), Memory>
+    pub fn push(&mut self, gathered: BatchItem) -> Result<(), Memory>
         ensures ok { OnOk result (self.new ≡ self.old ++ gathered ∷ []) }
         ensures err { OnErr result (self.new ≡ self.old) }
     {
@@ -163,6 +163,6 @@ impl Gathering {
     pub fn clear(&mut self)
         ensures { self.new ≡ [] }
     {
-        *self = Gathering::new(self.alloc);
+        *self = Batch::new(self.alloc);
     }
 }

@@ -11,7 +11,7 @@ mod plan;
 
 pub use count::{boxed, kept};
 pub use fate::{Fate, Rules};
-pub use gathered::{Gathered, Gathering, What};
+pub use gathered::{Batch, BatchItem, Payload};
 pub use laws::{a_quit_loses_nothing, what_is_unchanged_stays};
 pub use open::Open;
 pub use plan::quit_changes;

@@ -3,7 +3,7 @@ ghost use Rattle.mbox_scan.specs.Mailbox.{texts_of};
 ghost use Rattle.quit_rules.specs.Plans.{IsOpen, leaving_changes, quit_changes, mbox_change, mbox_changes, unchanged_len, messages_of, ArePartsOf};
 
 use crate::gathered::gathered_changes;
-use crate::{Fate, Gathered, Open, Rules};
+use crate::{BatchItem, Fate, Open, Rules};
 use folder_change::Change;
 use mail_text::{Items, Memory, Text};
 use mailx_vars::Vars;
@@ -132,7 +132,7 @@ pub fn quit_changes(
     folder: &Open,
     vars: &Vars,
     mbox: &[u8],
-    gathered: &[Gathered],
+    gathered: &[BatchItem],
 ) -> Result<Vec<Change>, Memory>
     requires { IsOpen folder.now }
     ensures { IfOk result

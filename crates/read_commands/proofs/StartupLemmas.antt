@@ -20,7 +20,7 @@ use Rattle.rc_conditionals.specs.Turns.{turned}
 use Rattle.command_desk.specs.declared.desk.Desk.{Desk}
 use Rattle.command_desk.specs.declared.naming.Naming.TheVariants as naming
 use Rattle.command_desk.specs.declared.steps.Steps.{Steps}
-use Rattle.command_desk.specs.Answers.{OrFault, next, unless, quietly}
+use Rattle.command_desk.specs.Answers.{OrFault, next, unless, effects_alone}
 use Rattle.command_desk.specs.Effects.{renames, unchanged}
 use Rattle.command_desk.specs.Faults.{bad_arguments, not_in_startup, too_many_aliases}
 use Rattle.command_desk.specs.FileNames.{expanded}
@@ -53,7 +53,7 @@ macro-little name None m little = little
 
 set-little : (desk : Desk) (words : List (List ℕ)) → AsksLittle (set desk words)
 set-little desk [] = refl
-set-little desk (w ∷ ws) = unless-little (first_refusal desk.vars (map setting_of (w ∷ ws))) (λ line. line) (quietly (sets (map setting_of (w ∷ ws)))) refl
+set-little desk (w ∷ ws) = unless-little (first_refusal desk.vars (map setting_of (w ∷ ws))) (λ line. line) (effects_alone (sets (map setting_of (w ∷ ws)))) refl
 
 unset-little : (desk : Desk) (words : List (List ℕ)) → AsksLittle (unset desk words)
 unset-little desk [] = tt
@@ -88,7 +88,7 @@ alias-little : (desk : Desk) (words : List (List ℕ)) → AsksLittle (alias des
 alias-little desk [] = refl
 alias-little desk (name ∷ []) = refl
 alias-little desk (name ∷ member ∷ members) =
-    either-little (is_some (define_refusal desk.aliases (member ∷ members))) (Err too_many_aliases) (quietly (renames (naming.Alias name (member ∷ members)))) tt refl
+    either-little (is_some (define_refusal desk.aliases (member ∷ members))) (Err too_many_aliases) (effects_alone (renames (naming.Alias name (member ∷ members)))) tt refl
 
 unalias-little : (desk : Desk) (words : List (List ℕ)) → AsksLittle (unalias desk words)
 unalias-little desk [] = tt
@@ -110,8 +110,8 @@ define-little : (desk : Desk) (words : List (List ℕ)) → AsksLittle (define d
 define-little desk [] = tt
 define-little desk (name ∷ []) = tt
 define-little desk (name ∷ brace ∷ []) =
-    either-little (bytes_eq brace (codes "{")) (or_macro_fault name (begin_refusal desk.macros name) (quietly (renames (naming.Begin name)))) (Err (bad_arguments (codes "define")))
-    (macro-little name (begin_refusal desk.macros name) (quietly (renames (naming.Begin name))) refl) tt
+    either-little (bytes_eq brace (codes "{")) (or_macro_fault name (begin_refusal desk.macros name) (effects_alone (renames (naming.Begin name)))) (Err (bad_arguments (codes "define")))
+    (macro-little name (begin_refusal desk.macros name) (effects_alone (renames (naming.Begin name))) refl) tt
 define-little desk (name ∷ brace ∷ w ∷ ws) = tt
 
 called-little : (name : List ℕ) (o : Option (List (List ℕ))) → AsksLittle (calling_or_fault name o)
@@ -161,13 +161,13 @@ read-little (Err said) desk = tt
 
 definition-little : (desk : Desk) (line : List ℕ) → AsksLittle (definition_line desk line)
 definition-little desk line =
-    either-little (bytes_eq line (codes "}")) (quietly (renames naming.End)) (or_macro_fault [] (line_refusal desk.macros line) (quietly (renames (naming.Line line)))) refl
-    (macro-little [] (line_refusal desk.macros line) (quietly (renames (naming.Line line))) refl)
+    either-little (bytes_eq line (codes "}")) (effects_alone (renames naming.End)) (or_macro_fault [] (line_refusal desk.macros line) (effects_alone (renames (naming.Line line)))) refl
+    (macro-little [] (line_refusal desk.macros line) (effects_alone (renames (naming.Line line))) refl)
 
 pub startup_asks_little : (desk : Desk) (line : List ℕ) → AsksLittle (commanded Startup desk line)
 startup_asks_little desk line =
     either-little (is_defining desk) (definition_line desk line) (commanded_outside Startup desk line) (definition-little desk line)
-    (either-little (passes_over desk line) (quietly unchanged) (next (read_from Startup line) (λ l. meaning l desk)) refl (read-little (read_or_fault (reading line)) desk))
+    (either-little (passes_over desk line) (effects_alone unchanged) (next (read_from Startup line) (λ l. meaning l desk)) refl (read-little (read_or_fault (reading line)) desk))
 
 pub startup-steps : (from : Origin) (desk : Desk) (line : List ℕ) (steps : Steps) → from ≡ Startup → commanded from desk line ≡ Ok steps → list_all is_startup_ask steps.asks ≡ true
 startup-steps from desk line steps is comes =

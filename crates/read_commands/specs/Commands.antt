@@ -16,7 +16,7 @@ use Rattle.message_show.specs.declared.text.How.TheVariants.{Kept, All}
 use Rattle.command_desk.specs.declared.desk.Desk.{Desk}
 use Rattle.command_desk.specs.declared.steps.Ask.TheVariants as asks
 use Rattle.command_desk.specs.declared.steps.Steps.{Steps}
-use Rattle.command_desk.specs.Answers.{OrFault, next, quietly}
+use Rattle.command_desk.specs.Answers.{OrFault, next, effects_alone}
 use Rattle.command_desk.specs.Effects.{gathers, unchanged}
 use Rattle.command_desk.specs.Faults.{bad_arguments, unknown_command, open_quote, line_too_long}
 use Rattle.show_commands.specs.Printing.{print, top, print_following}
@@ -106,7 +106,7 @@ meaning_of command.Call line desk = call desk line.words
 meaning_of command.Undef line desk = undef desk line.words
 meaning_of command.Defines line desk = defines desk
 meaning_of command.Help line desk = help desk
-meaning_of command.Comment line desk = quietly unchanged
+meaning_of command.Comment line desk = effects_alone unchanged
 meaning_of command.Copy line desk = filed desk (copy desk line.words)
 meaning_of command.CopyByAuthor line desk = filed desk (copy_by_author desk line.words)
 meaning_of command.Save line desk = filed desk (save desk line.words)

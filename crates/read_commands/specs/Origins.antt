@@ -16,7 +16,7 @@ use Rattle.command_desk.specs.declared.desk.Desk.{Desk}
 use Rattle.command_desk.specs.declared.steps.Ask as asked_of
 use Rattle.command_desk.specs.declared.steps.Ask.TheVariants as asks
 use Rattle.command_desk.specs.declared.steps.Steps.{Steps}
-use Rattle.command_desk.specs.Answers.{OrFault, next, unless, quietly}
+use Rattle.command_desk.specs.Answers.{OrFault, next, unless, effects_alone}
 use Rattle.command_desk.specs.Effects.{unchanged}
 use Rattle.command_desk.specs.Faults.{not_in_startup, not_composing}
 use Rattle.desk_commands.specs.Defining.{definition_line}
@@ -105,7 +105,7 @@ is_defining desk = is_some desk.macros.unfinished
 -- command is carried out
 abbrev pub commanded_outside : Origin → Desk → List ℕ → OrFault Steps
 commanded_outside from desk line =
-    if passes_over desk line then quietly unchanged
+    if passes_over desk line then effects_alone unchanged
     else next (read_from from line) (λ command. meaning command desk)
 
 -- what a line from somewhere comes to: where a definition is under way it is one of it, whatever it is

@@ -9,7 +9,7 @@ ghost use Rattle.folder_commands.specs.declared.wanted.Filing.{Filing};
 ghost use Rattle.read_commands.specs.Commands.{name_of, exit, filed, gathering, steps_by, steps_of, has_words_too_many, meaning, meaning_of, read_or_fault};
 
 use child_commands::{edit, folders, pipe, shell, visual};
-use command_desk::{Ask, Desk, Refusal, Steps, fault, gathers, quietly, unchanged};
+use command_desk::{Ask, Desk, Refusal, Steps, effects_alone, fault, gathers, unchanged};
 use desk_commands::{
     alias, alternates, call, condition, define, defines, delete, delete_and_print, flagging, hold,
     ignore, mbox, retain, set, sort, source, thread, touch, unalias, undef, undelete, unset,
@@ -173,7 +173,7 @@ fn carry_out(alloc: Global, line: &CommandLine, desk: &Desk) -> Result<Steps, Re
         Command::Call => call(alloc, desk, words),
         Command::Undef => undef(alloc, desk, words),
         Command::Defines => defines(alloc, desk),
-        Command::Comment => Ok(quietly(alloc, unchanged(alloc))),
+        Command::Comment => Ok(effects_alone(alloc, unchanged(alloc))),
         Command::Number => number(alloc, desk),
         Command::Help => help(alloc, desk),
         Command::Copy => filed(alloc, desk, copy(alloc, desk, words)),

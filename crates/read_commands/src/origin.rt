@@ -10,7 +10,7 @@ ghost use Rattle.read_commands.specs.Commands.{meaning};
 ghost use Rattle.read_commands.specs.Origins.{is_of_startup, leaves_draft, line_of_origin, read_from, is_defining, turns_lines, passes_over, commanded, commanded_outside, AsksLittle};
 
 use crate::dispatch::{command_line, name_of, perform};
-use command_desk::{Desk, Refusal, Steps, fault, quietly, unchanged};
+use command_desk::{Desk, Refusal, Steps, effects_alone, fault, unchanged};
 use desk_commands::definition_line;
 use line_words::{Command, CommandLine, command_in};
 use std::alloc::Global;
@@ -147,7 +147,7 @@ fn perform_command(
     ensures desk { IfOk result (λ steps. IsDesk (effect desk.now steps.effects)) }
 {
     if passes_over(desk, line) {
-        Ok(quietly(alloc, unchanged(alloc)))
+        Ok(effects_alone(alloc, unchanged(alloc)))
     } else {
         perform_read(alloc, origin, line, desk)
     }

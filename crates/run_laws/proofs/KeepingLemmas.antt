@@ -25,9 +25,9 @@ use Rattle.commit_machine.proofs.records.Same.{same_or_not}
 use Rattle.session_play.specs.Committing.{Commit}
 use Rattle.play_safety.specs.Appended.{IsRewritten, LeaveAlone}
 use Rattle.quit_rules.specs.declared.open.Open.{Open}
-use Rattle.quit_rules.specs.declared.gathered.Gathered.{Gathered}
-use Rattle.quit_rules.specs.declared.gathered.What.{What}
-use Rattle.quit_rules.specs.declared.gathered.What.TheVariants.{Texts, Bytes}
+use Rattle.quit_rules.specs.declared.gathered.BatchItem.{BatchItem}
+use Rattle.quit_rules.specs.declared.gathered.Payload.{Payload}
+use Rattle.quit_rules.specs.declared.gathered.Payload.TheVariants.{Texts, Bytes}
 use Rattle.quit_rules.specs.Gathering.{gathered_changes, put}
 use Rattle.quit_rules.specs.Plans.{IsOpen, Message, boxed, folder_changes, mbox_change, mbox_changes, messages_of, quit_changes, same_texts, stamped_text, staying}
 use Rattle.quit_rules.specs.QuitLaws.{is_given_up}
@@ -72,17 +72,17 @@ some_same xs ys is = cc
 
 -- ---- the changes of a quit, of the files that their names stand for, are those of a quit of these files
 module _ (here : List ℕ) where
-  abbrev placed_gathered : Gathered → Gathered
+  abbrev placed_gathered : BatchItem → BatchItem
   placed_gathered one = record one { name = placed here one.name }
 
   abbrev placed_open : Open → Open
   placed_open folder = record folder { name = placed here folder.name }
 
-  put_placed : (name : List ℕ) (what : What) → placed_change here (put name what) ≡ put (placed here name) what
+  put_placed : (name : List ℕ) (what : Payload) → placed_change here (put name what) ≡ put (placed here name) what
   put_placed name (Texts texts) = refl
   put_placed name (Bytes bytes) = refl
 
-  gathered_placed : (gathered : List Gathered) → placed_changes here (gathered_changes gathered) ≡ gathered_changes (map placed_gathered gathered)
+  gathered_placed : (gathered : List BatchItem) → placed_changes here (gathered_changes gathered) ≡ gathered_changes (map placed_gathered gathered)
   gathered_placed [] = refl
   gathered_placed (one ∷ more) =
       ap (λ (c : Change). c ∷ placed_changes here (gathered_changes more)) (put_placed one.name one.what)
@@ -112,7 +112,7 @@ module _ (here : List ℕ) where
       go true = refl
       go false = refl
 
-  quit_placed : (folder : Open) (vars : Settings) (mbox : List ℕ) (gathered : List Gathered)
+  quit_placed : (folder : Open) (vars : Settings) (mbox : List ℕ) (gathered : List BatchItem)
       → placed_changes here (quit_changes folder vars mbox gathered) ≡ quit_changes (placed_open folder) vars (placed here mbox) (map placed_gathered gathered)
   quit_placed folder vars mbox gathered =
       let f = placed_change here in
@@ -231,7 +231,7 @@ quits_keep_messages start env status d now es safe c s later there leaves valid 
     kept : IsRewritten (texts_of folder.folder) (staying folder vars) (files file) (settled_files actor now file)
     kept = quits-keep start env status d es safe later.front later.behind later.decision now c s later.left later.decides alone_folder leaves
 
-    gathered : List Gathered
+    gathered : List BatchItem
     gathered = map (placed_gathered s.here) s.desk.gathered
 
     changes : c.changes ≡ quit_changes (placed_open s.here folder) vars mbox gathered

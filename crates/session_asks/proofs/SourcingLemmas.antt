@@ -23,7 +23,7 @@ use Rattle.mailx_macros.specs.Macros.{line_refusal}
 use Rattle.mailx_macros.specs.declared.error.MacroError.{MacroError}
 use Rattle.command_desk.specs.declared.naming.Naming.TheVariants as naming
 use Rattle.command_desk.specs.declared.steps.Ask as asked_of
-use Rattle.command_desk.specs.Answers.{quietly}
+use Rattle.command_desk.specs.Answers.{effects_alone}
 use Rattle.command_desk.specs.Effects.{renames}
 use Rattle.desk_commands.specs.Defining.{or_macro_fault}
 use Rattle.read_commands.specs.Origins.{commanded, is_defining, is_startup_ask}
@@ -254,7 +254,7 @@ weight_kept s t others same = subst (λ (u : SessionState). weight u ≤ weight 
 
 -- a line of a definition brings nothing
 definition-brings : (b : Bool) (o : Option MacroError) (line : List ℕ)
-    → brings_lines (if b then quietly (renames naming.End) else or_macro_fault [] o (quietly (renames (naming.Line line)))) ≡ false
+    → brings_lines (if b then effects_alone (renames naming.End) else or_macro_fault [] o (effects_alone (renames (naming.Line line)))) ≡ false
 definition-brings true o line = refl
 definition-brings false None line = refl
 definition-brings false (Some e) line = refl

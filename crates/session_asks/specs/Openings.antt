@@ -43,7 +43,7 @@ desk_with places mode terminal = record {
   mode = mode;
   terminal = terminal;
   page = 0;
-  fresh = true;
+  unprinted = true;
   places = places;
 }
 
@@ -97,7 +97,7 @@ is_system s name = bytes_eq name s.desk.places.mail && not (bytes_eq (placed s.h
 
 -- the desk with another folder, whose messages are shown so, by number
 abbrev pub with_folder : Desk → Open → Shown → Desk
-with_folder desk folder shown = record desk { folder = folder; shown = shown; view = Plain; fresh = true }
+with_folder desk folder shown = record desk { folder = folder; shown = shown; view = Plain; unprinted = true }
 
 -- a folder of these bytes is opened, with the rows of its texts, in order of number
 unfoldable pub opened : SessionState → List ℕ → List ℕ → List Row → Desk

@@ -131,7 +131,7 @@ fn move_within(alloc: Global, state: &mut SessionState, n: u32)
 {
     if n as usize <= state.desk.shown.rows.items().len() {
         let effects = moved(alloc, &state.desk, n);
-        match state.desk.settle(effects) {
+        match state.desk.apply(effects) {
             Ok(()) => {}
             Err(Memory) => {}
         }

@@ -250,7 +250,7 @@ fn lay(desk: &mut Desk, n: u32, edited: Edited) -> Result<(), Memory>
     desk.shown.order = order;
     desk.shown.depth = depth;
     drop(was);
-    match desk.settle(effects) {
+    match desk.apply(effects) {
         Ok(()) => Ok(()),
         Err(Memory) => Err(Memory),
     }
@@ -342,7 +342,7 @@ fn look(alloc: Global, desk: &mut Desk, n: u32) -> Result<(), Memory>
     ensures valid { IsDesk desk.new }
 {
     let effects = look_at(alloc, desk, n)?;
-    match desk.settle(effects) {
+    match desk.apply(effects) {
         Ok(()) => Ok(()),
         Err(Memory) => Err(Memory),
     }

@@ -18,7 +18,7 @@ use mailx_vars::{Places, Vars};
 use mbox_scan::Folder;
 use message_show::FieldSets;
 use message_state::{Mark, Order, Row, RowList, Shown, State, row_of};
-use quit_rules::Gathering;
+use quit_rules::Batch;
 use rc_conditionals::{Conditions, Mode};
 use read_commands::{Desk, Open, Refusal, page_of, page_size};
 use session_state::{Frames, Outcome, SessionState, front_of, placed};
@@ -75,7 +75,7 @@ fn first_desk(alloc: Global, places: Places, mode: Mode, terminal: bool) -> Resu
             folder,
             marks: Items::new(alloc),
         },
-        gathered: Gathering::new(alloc),
+        gathered: Batch::new(alloc),
         previous: Text::new(alloc),
         shown: Shown {
             rows: RowList::new(alloc),
@@ -96,7 +96,7 @@ fn first_desk(alloc: Global, places: Places, mode: Mode, terminal: bool) -> Resu
         mode,
         terminal,
         page: 0,
-        fresh: true,
+        unprinted: true,
         places,
     })
 }
@@ -291,6 +291,6 @@ pub fn put_folder(desk: &mut Desk, size: Option<usize>, folder: Open, shown: Sho
     desk.folder = folder;
     desk.shown = shown;
     desk.view = ViewKind::Plain;
-    desk.fresh = true;
+    desk.unprinted = true;
     desk.page = page_here(desk, size);
 }

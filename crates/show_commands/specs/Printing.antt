@@ -51,7 +51,7 @@ print_next desk None = Err at_end
 abbrev pub following : Desk → Option ℕ
 following desk =
     let current = desk.shown.current in
-    if in_base desk.shown Live current && desk.fresh then Some current
+    if in_base desk.shown Live current && desk.unprinted then Some current
     else next_of desk.shown Live current
 
 -- the first of some messages that stands after the current one in the view

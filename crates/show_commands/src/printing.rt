@@ -8,8 +8,8 @@ ghost use Rattle.show_commands.specs.Printing.{print, number_of_variable, topped
 ghost use Rattle.command_desk.specs.Messages.{printed};
 
 use command_desk::{
-    Among, Desk, Refusal, Steps, chosen, fault, marked_and_written, message, printed, put_heading,
-    put_printed, says,
+    Desk, MessageSet, Refusal, Steps, chosen, fault, marked_and_written, message, printed,
+    put_heading, put_printed, says,
 };
 use mail_text::{Memory, Text};
 use mailx_vars::{VarError, Vars};
@@ -115,7 +115,7 @@ fn following(desk: &Desk) -> Option<u32>
     ensures message { IfSome result (IsMessageOf desk.now.shown) }
 {
     let current = desk.shown.current;
-    if in_base(&desk.shown, Purpose::Live, current) && desk.fresh {
+    if in_base(&desk.shown, Purpose::Live, current) && desk.unprinted {
         return Some(current);
     }
     next_live(&desk.shown, current)
@@ -161,7 +161,7 @@ fn following_of(alloc: Global, desk: &Desk, numbers: &[u32]) -> Result<Option<u3
     if shown.order.is_by_number() {
         return Ok(least_above(desk, numbers));
     }
-    let among = Among::of(alloc, numbers, shown.rows.items().len())?;
+    let among = MessageSet::of(alloc, numbers, shown.rows.items().len())?;
     match place_of(shown, shown.current) {
         Some(place) => {
             let (_, after) = shown.order.items().split_at(place + 1);

@@ -4,11 +4,11 @@ use Rattle.session_asks.proofs.editing.lay.Goals as goal
 pub put-was-requires : goal.put-was-requires
 put-was-requires c = let message = c.requires.message in omega (arith, message.0, message.1)
 
-pub settle-requires-clause-before : goal.settle-requires-clause-before
-settle-requires-clause-before c = rw c.put-was.ensures.rows c.requires.laid
+pub apply-requires-clause-before : goal.apply-requires-clause-before
+apply-requires-clause-before c = rw c.put-was.ensures.rows c.requires.laid
 
-pub settle-requires-clause-after : goal.settle-requires-clause-after
-settle-requires-clause-after c = rw c.put-was.ensures.rows c.requires.looked
+pub apply-requires-clause-after : goal.apply-requires-clause-after
+apply-requires-clause-after c = rw c.put-was.ensures.rows c.requires.looked
 
 pub returns-in-Ok-clause-ok : goal.returns-in-Ok-clause-ok
 returns-in-Ok-clause-ok c = rw c.put-was.ensures.rows at c.in-Ok.ensures.ok
