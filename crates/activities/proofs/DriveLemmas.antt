@@ -14,8 +14,8 @@ use Rattle.session_play.proofs.PlayLemmas.{at-memory, goes-then, goes-cut, goes-
 use Rattle.sender_port.specs.declared.error.SendError.{SendError}
 use Rattle.sender_port.specs.declared.error.SendError.TheVariants as send
 use Rattle.sender_port.specs.Sending.{as_played}
-use Rattle.session_state.specs.declared.answers.Asked.{Asked}
-use Rattle.session_state.specs.declared.answers.Asked.TheVariants as asked
+use Rattle.session_state.specs.declared.answers.AskResult.{AskResult}
+use Rattle.session_state.specs.declared.answers.AskResult.TheVariants as asked
 use Rattle.session_state.specs.declared.error.RunError.{RunError}
 use Rattle.session_state.specs.declared.error.RunError.TheVariants as error
 use Rattle.session_state.specs.declared.flow.Flow.{Flow}
@@ -142,7 +142,7 @@ driven-short {w = w} {old = old} {mid = mid} p f T E s t c a is d ran =
     (let L : Turn → Type 0 = λ r. Ran w old mid (Reaches p (left_of f s r)) in subst L is d.ran) ran
 
 -- only a commit is cut off by a fault of the disk, and what a commit leaves is never taken
-pub spared : (T : Answer → Type 0) (E : Flow → Type 0) (t : Turn) (c : Call) (e : RunError) → t ≡ turn.Ask c → IsReady T E t → ((asked : Asked) → T (answer.Committed asked) → ⊥)
+pub spared : (T : Answer → Type 0) (E : Flow → Type 0) (t : Turn) (c : Call) (e : RunError) → t ≡ turn.Ask c → IsReady T E t → ((asked : AskResult) → T (answer.Committed asked) → ⊥)
     → IsCutOf c e → IsNoDiskFault e
 spared T E t (call.Commit changes) e is ready never cut =
     let R : Turn → Type 0 = λ r. IsReady T E r in absurd (never asked.On ((subst R is ready).1 (answer.Committed asked.On) tt))

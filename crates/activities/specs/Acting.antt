@@ -14,7 +14,7 @@ use Rattle.sender_port.specs.declared.error.SendError.{SendError}
 use Rattle.sender_port.specs.declared.error.SendError.TheVariants as send
 use Rattle.sender_port.specs.Names.{names_fault}
 use Rattle.sender_port.specs.Sending.{program_of, sender_args, sent}
-use Rattle.session_state.specs.declared.answers.Asked.{Asked}
+use Rattle.session_state.specs.declared.answers.AskResult.{AskResult}
 use Rattle.session_state.specs.declared.error.RunError.{RunError}
 use Rattle.session_state.specs.declared.error.RunError.TheVariants as error
 use Rattle.session_state.specs.declared.flow.Flow.{Flow}
@@ -120,7 +120,7 @@ IsReady takes ends (turn.End flow) = ends flow
 
 -- what a commit leaves is never taken, so that none is asked for
 abbrev pub NeverCommits : {A : Type 0} → (A → SessionState → Answer → Type 0) → Type 0
-NeverCommits {A} takes = (e : A) (s : SessionState) (asked : Asked) → takes e s (answer.Committed asked) → ⊥
+NeverCommits {A} takes = (e : A) (s : SessionState) (asked : AskResult) → takes e s (answer.Committed asked) → ⊥
 
 -- the most calls from a turn on, if so many may follow its own
 abbrev pub most_of : ℕ → Turn → ℕ

@@ -8,7 +8,7 @@ use mail_dates::Moment;
 use mail_text::{Items, Text};
 use sender_port::SendError;
 use session_play::Found;
-use session_state::{Asked, Flow};
+use session_state::{AskResult, Flow};
 
 /// One thing that is asked of the outside.
 #[derive(Drop)]
@@ -35,7 +35,7 @@ pub enum Answer {
     /// It was printed.
     Said,
     /// What the commit leaves.
-    Committed(Asked),
+    Committed(AskResult),
     /// What the sender wrote, or why the message wasn't sent.
     Sent(Result<Text, SendError>),
     /// The moment.
@@ -69,7 +69,7 @@ impl Answer {
     }
 
     /// What the commit leaves.
-    pub fn asked(self) -> Asked
+    pub fn asked(self) -> AskResult
         requires { IsAsked self }
         ensures { self ≡ Answer.Committed result }
     {
@@ -80,7 +80,7 @@ impl Answer {
             | Answer::Time(_)
             | Answer::Loaded(_)
             | Answer::Ran(_)
-            | Answer::Edited(_) => Asked::Over,
+            | Answer::Edited(_) => AskResult::Over,
         }
     }
 

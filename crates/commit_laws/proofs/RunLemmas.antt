@@ -23,7 +23,7 @@ use Rattle.compose_tilde.specs.Lines.{asks_subject}
 use Rattle.command_words.specs.declared.options.Options.{Options}
 use Rattle.command_desk.specs.Answers.{OrFault}
 use Rattle.session_state.specs.Placing.{placed}
-use Rattle.session_state.specs.States.{is_drafting, next_waiting, resumed, rested}
+use Rattle.session_state.specs.States.{is_drafting, next_waiting, resumed, line_ended}
 use Rattle.session_state.specs.Waits.{Pending}
 use Rattle.session_state.specs.declared.frames.WaitingLine.{WaitingLine}
 use Rattle.session_state.specs.declared.state.SessionState.{SessionState}
@@ -103,8 +103,8 @@ module _ (env : Environment) (actor : List ℕ) (token : ℕ) where
         fair_bind Known (walk.NextOf (Mine actor token)) (NextKeeps Kept) (startup_play s name) k
         (lines_fair s (startup_play s name) (walk.startup-obeys (Mine actor token) Known (all_known actor token) s.outcome s name (of, λ is. is))) on
 
-  rested_kept : (s : SessionState) → Keeps s → Keeps (rested s)
-  rested_kept s of = walk.rested-of (Mine actor token) s of
+  rested_kept : (s : SessionState) → Keeps s → Keeps (line_ended s)
+  rested_kept s of = walk.line_ended-of (Mine actor token) s of
 
   -- ---- the input
   input_on : (i : Input) (n : Next SessionState Status) → walk.NextOf (Mine actor token) n → Rounds (with_input i n)
@@ -119,7 +119,7 @@ module _ (env : Environment) (actor : List ℕ) (token : ℕ) where
   files_on start names (Go s) of = of
   files_on start names (Last e) u = tt
 
-  behind_kept : (b : Bool) (s : SessionState) (j : Input) → Keeps s → Rounds (Ret (Go (if b then Finishing s j else Leaving (rested s) j)))
+  behind_kept : (b : Bool) (s : SessionState) (j : Input) → Keeps s → Rounds (Ret (Go (if b then Finishing s j else Leaving (line_ended s) j)))
   behind_kept true s j of = of
   behind_kept false s j of = rested_kept s of
 
@@ -139,7 +139,7 @@ module _ (env : Environment) (actor : List ℕ) (token : ℕ) where
   line_fair s i None of = unless_fair (is_over s) s i of
   line_fair s i (Some p) of = waits_then (with_input i) (input_on i) s p of
 
-  drafts_fair : (b : Bool) (s : SessionState) (i : Input) → Keeps s → Rounds (if b then bind (ended_draft s) (with_finishing i) else Ret (Go (Leaving (rested s) i)))
+  drafts_fair : (b : Bool) (s : SessionState) (i : Input) → Keeps s → Rounds (if b then bind (ended_draft s) (with_finishing i) else Ret (Go (Leaving (line_ended s) i)))
   drafts_fair true s i of = ended_then (with_finishing i) (finishing_on i) s of
   drafts_fair false s i of = rested_kept s of
 
@@ -153,7 +153,7 @@ module _ (env : Environment) (actor : List ℕ) (token : ℕ) where
   next_file_fair start s (name ∷ names) of = startup_then (with_files start names) (files_on start names) s name of
 
   file_fair : (start : Start) (s : SessionState) (names : List (List ℕ)) (next : Option (WaitingLine × List Pending)) → Keeps s → Rounds (file_round start s names next)
-  file_fair start s names None of = next_file_fair start (rested s) names (rested_kept s of)
+  file_fair start s names None of = next_file_fair start (line_ended s) names (rested_kept s of)
   file_fair start s names (Some p) of = waits_then (with_files start names) (files_on start names) s p of
 
   -- ---- the recovery

@@ -15,7 +15,7 @@ use Rattle.sender_port.specs.declared.error.NamesFault.{NamesFault}
 use Rattle.sender_port.specs.Names.{names_fault}
 use Rattle.send_rules.specs.Lines.{names_line, names_refused, sender_ended}
 use Rattle.draft_sending.specs.declared.sending.Letter.{Letter}
-use Rattle.session_state.specs.declared.outcome.Outcome.{Outcome}
+use Rattle.session_state.specs.declared.outcome.SendOutcome.{SendOutcome}
 use Rattle.session_state.specs.declared.state.SessionState.{SessionState}
 use Rattle.session_state.specs.Outcomes.{not_sent}
 use Rattle.session_state.specs.declared.status.Status.{Status}
@@ -106,10 +106,10 @@ sending-left s letter names to message same is =
     subst (λ (m : List ℕ). M m to) (sym is) (subst (λ (n : List (List ℕ)). M (message_text letter.draft letter.moment) n) (sym same) refl)
 
 -- a sender's status, where it is another number
-pub ended-as : (s : SessionState) (letter : Letter) (n k : ℤ) (output : List ℕ) (outcome : Outcome) (line : List ℕ) (P : Play (Next SessionState Status) → Type 0) → k ≡ n
+pub ended-as : (s : SessionState) (letter : Letter) (n k : ℤ) (output : List ℕ) (outcome : SendOutcome) (line : List ℕ) (P : Play (Next SessionState Status) → Type 0) → k ≡ n
     → outcome ≡ not_sent (Some k) s.outcome → line ≡ output ++ sender_ended k → P (unsent (with_outcome s outcome) letter line) → P (ended_with s letter n output)
 ended-as s letter n k output outcome line P same came is holds =
     let N : ℤ → Type 0 = λ x. P (ended_with s letter x output) in
-    let O : Outcome → Type 0 = λ o. P (unsent (with_outcome s o) letter line) in
+    let O : SendOutcome → Type 0 = λ o. P (unsent (with_outcome s o) letter line) in
     let L : List ℕ → Type 0 = λ l. P (unsent (unsent_by (Some k) s) letter l) in
     subst N same (subst L is (subst O came holds))

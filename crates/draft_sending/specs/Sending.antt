@@ -21,7 +21,7 @@ use Rattle.send_rules.specs.declared.addressing.Recipients.{Recipients}
 use Rattle.send_rules.specs.Addressing.{addressees, addressed}
 use Rattle.send_rules.specs.Recording.{dead, recorded}
 use Rattle.send_rules.specs.Lines.{names_refused, sender_ended, sender_not_run, too_many_recipients}
-use Rattle.session_state.specs.declared.outcome.Outcome.TheVariants as outcome
+use Rattle.session_state.specs.declared.outcome.SendOutcome.TheVariants as outcome
 use Rattle.draft_sending.specs.declared.sending.Letter.{Letter}
 use Rattle.session_state.specs.declared.state.SessionState.{SessionState}
 use Rattle.session_state.specs.declared.status.Status.{Status}

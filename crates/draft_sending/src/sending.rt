@@ -34,7 +34,7 @@ use send_rules::{
     too_many_recipients,
 };
 use sender_port::SendError;
-use session_state::{Asked, Flow, Outcome, RunError, SessionState, not_sent};
+use session_state::{AskResult, Flow, RunError, SendOutcome, SessionState, not_sent};
 use std::alloc::Global;
 use std::mem;
 
@@ -133,7 +133,7 @@ impl Ending {
     }
 
     // Prints why the draft isn't sent, with what became of it, and then keeps its text.
-    fn keep(&mut self, state: &mut SessionState, outcome: Outcome, line: Text) -> Turn
+    fn keep(&mut self, state: &mut SessionState, outcome: SendOutcome, line: Text) -> Turn
         requires { IsDated 2 self.old }
         ensures leads { LeadsTo (most self.old)
             (unsent (with_outcome state.old outcome) self.old.letter line) self.new state.new result }
@@ -167,7 +167,7 @@ impl Ending {
         &mut self,
         alloc: Global,
         state: &mut SessionState,
-        asked: Asked,
+        asked: AskResult,
     ) -> Result<Turn, Memory>
         requires rank { 0 < most self.old }
         requires end { EndsByAsk asked }
@@ -176,15 +176,15 @@ impl Ending {
         ensures keeps { KeepsButOutcome state.old state.new }
     {
         match asked {
-            Asked::On | Asked::Over => {
+            AskResult::On | AskResult::Over => {
                 let line = receipt(alloc, self.dead.bytes(), b"Dead", 1)?;
                 Ok(self.tell(line))
             }
-            Asked::Refused { line } => {
-                state.outcome = Outcome::Refused;
+            AskResult::Refused { line } => {
+                state.outcome = SendOutcome::Refused;
                 Ok(self.tell(line))
             }
-            Asked::Ended(status) => Ok(Turn::End(Flow::End(status))),
+            AskResult::Ended(status) => Ok(Turn::End(Flow::End(status))),
         }
     }
 
@@ -241,7 +241,7 @@ impl Ending {
         &mut self,
         alloc: Global,
         state: &mut SessionState,
-        asked: Asked,
+        asked: AskResult,
     ) -> Result<Turn, Memory>
         requires dated { IsDated 3 self.old }
         requires names { names_refused self.old.names ≡ None }
@@ -251,9 +251,9 @@ impl Ending {
         ensures keeps { KeepsButOutcome state.old state.new }
     {
         match asked {
-            Asked::On | Asked::Over => self.send(alloc, state),
-            Asked::Refused { line } => Ok(self.keep(state, Outcome::Refused, line)),
-            Asked::Ended(status) => Ok(Turn::End(Flow::End(status))),
+            AskResult::On | AskResult::Over => self.send(alloc, state),
+            AskResult::Refused { line } => Ok(self.keep(state, SendOutcome::Refused, line)),
+            AskResult::Ended(status) => Ok(Turn::End(Flow::End(status))),
         }
     }
 
@@ -292,7 +292,7 @@ impl Ending {
                 Ok(Turn::Ask(Call::Commit(changes)))
             }
             Ok(None) => self.send(alloc, state),
-            Err(Refusal::Fault { line }) => Ok(self.keep(state, Outcome::Unrecorded, line)),
+            Err(Refusal::Fault { line }) => Ok(self.keep(state, SendOutcome::Unrecorded, line)),
             Err(Refusal::Memory) => Err(Memory),
         }
     }

@@ -30,10 +30,10 @@ use Rattle.folder_commit.specs.declared.error.CommitError.{CommitError}
 use Rattle.folder_commit.specs.declared.error.CommitError.TheVariants as error
 use Rattle.folder_commit.proofs.LookLemmas.{is-told}
 use Rattle.mailx_vars.specs.Names.{is_short_name}
-use Rattle.session_play.specs.Naming.{misnamed}
+use Rattle.session_play.specs.Naming.{target_fault}
 use Rattle.session_play.specs.declared.naming.NameFault.{NameFault}
 use Rattle.session_play.specs.declared.naming.NameFault.TheVariants as fault
-use Rattle.session_play.specs.Committing.{Commit, first_misnamed, Attempted}
+use Rattle.session_play.specs.Committing.{Commit, first_target_fault, Attempted}
 use Rattle.session_play.specs.declared.changing.Attempt.{Attempt}
 use Rattle.session_play.specs.declared.changing.Attempt.TheVariants.{Made, Misnamed}
 use Rattle.session_play.specs.declared.changing.Committed.TheVariants as committed
@@ -135,7 +135,7 @@ file-short name h =
     first-three (nat_lt 0 (length name)) (nat_le (length name) 4000) (list_any (λ b. b == 0) name)
     (not (ends_with (◌==◌) name (codes ".lock")) && not (is_staged_end (drop (length name - 19) name))) h
 
-file-named : (name : List ℕ) → is_file_name actor name ≡ true → misnamed actor name ≡ None
+file-named : (name : List ℕ) → is_file_name actor name ≡ true → target_fault actor name ≡ None
 file-named name h = go (is_short_name name) (is_file_name actor name) (file-short name (and_parts (is_lawful name) (not (is_record_name actor name) && not (bytes_eq name (right_name actor))) h).0) h
   where
     go : (short file : Bool) → short ≡ true → file ≡ true → (if short then (if file then None else Some fault.Reserved) else Some fault.Bad) ≡ None
@@ -143,17 +143,17 @@ file-named name h = go (is_short_name name) (is_file_name actor name) (file-shor
     go true false a b = absurd (cc b)
     go false file a b = absurd (cc a)
 
-recipient-named : (user : List ℕ) → is_recipient user ≡ true → misnamed actor (mailbox user) ≡ None
+recipient-named : (user : List ℕ) → is_recipient user ≡ true → target_fault actor (mailbox user) ≡ None
 recipient-named user h =
     let a = and_parts (begins_plainly user) (nat_le (length user) 255 && (list_all is_user_byte user && is_file_name actor (mailbox user))) h in
     let b = and_parts (nat_le (length user) 255) (list_all is_user_byte user && is_file_name actor (mailbox user)) a.1 in
     let c = and_parts (list_all is_user_byte user) (is_file_name actor (mailbox user)) b.1 in
     file-named (mailbox user) c.1
 
-pub well-named : (text : List ℕ) (users : List (List ℕ)) → AllByRecursion (λ (user : List ℕ). is_recipient user ≡ true) users → first_misnamed actor (additions text users) ≡ None
+pub well-named : (text : List ℕ) (users : List (List ℕ)) → AllByRecursion (λ (user : List ℕ). is_recipient user ≡ true) users → first_target_fault actor (additions text users) ≡ None
 well-named text [] all = refl
 well-named text (u ∷ us) all =
-    ap (λ (o : Option NameFault). option_or (option_map (λ (f : NameFault). (mailbox u, f)) o) (first_misnamed actor (additions text us))) (recipient-named u all.0)
+    ap (λ (o : Option NameFault). option_or (option_map (λ (f : NameFault). (mailbox u, f)) o) (first_target_fault actor (additions text us))) (recipient-named u all.0)
     ∙ well-named text us all.1
 
 without-less : (name : List ℕ) (ns : List (List ℕ)) → length (without name ns) ≤ length ns
@@ -180,7 +180,7 @@ abbrev failed : CommitError → Result Unit CommitError
 failed why = Err why
 
 module _ (text : List ℕ) (token : ℕ) (fits : token < 2 ^ 64) where
-  unchanged : (users : List (List ℕ)) (es : List Event) (n : List ℕ) (k : ℕ) → first_misnamed actor (additions text users) ≡ None → length users ≤ file_limit
+  unchanged : (users : List (List ℕ)) (es : List Event) (n : List ℕ) (k : ℕ) → first_target_fault actor (additions text users) ≡ None → length users ≤ file_limit
       → IsCommit actor token (additions text users) [] es (failed (error.Changed n k)) → ⊥
   unchanged [] es n k well few h = absurd (let is = h.1 in cc is)
   unchanged (u ∷ us) es n k well few h =
@@ -189,7 +189,7 @@ module _ (text : List ℕ) (token : ℕ) (fits : token < 2 ^ 64) where
       let end : end_told actor cs [] es ≡ Refused (Changed n k) = told.2 (few-names text (u ∷ us) few) in
       adds-never text (u ∷ us) (seen_in es) n k (told-never (first_refusal cs [] (seen_in es)) n k (right-so (refusal_told cs [] es) n k (first_names cs) es end))
 
-  not-many : (users : List (List ℕ)) (es : List Event) (count : ℕ) → first_misnamed actor (additions text users) ≡ None → length users ≤ file_limit
+  not-many : (users : List (List ℕ)) (es : List Event) (count : ℕ) → first_target_fault actor (additions text users) ≡ None → length users ≤ file_limit
       → IsCommit actor token (additions text users) [] es (failed (error.TooManyNames count)) → ⊥
   not-many [] es count well few h = absurd (let is = h.1 in cc is)
   not-many (u ∷ us) es count well few h =
@@ -210,4 +210,4 @@ may-come c text users (Made (committed.TooManyNames count)) es who what none fit
 may-come c text users (Misnamed name f) es who what none fits all few did =
     let some = did.0 in
     let well = well-named text users all in
-    absurd (cc (some, well, ap (λ (cs : List Change). first_misnamed actor cs) what, ap (λ (a : List ℕ). first_misnamed a c.changes) who))
+    absurd (cc (some, well, ap (λ (cs : List Change). first_target_fault actor cs) what, ap (λ (a : List ℕ). first_target_fault a c.changes) who))

@@ -38,7 +38,7 @@ use Rattle.session_play.specs.declared.stop.Stop.{Stop}
 use Rattle.session_play.specs.declared.stop.Stop.TheVariants as stop
 use Rattle.session_play.specs.Acts.{is_neutral}
 use Rattle.session_play.specs.Causes.{bytes_in}
-use Rattle.session_play.specs.Committing.{first_misnamed, Attempted}
+use Rattle.session_play.specs.Committing.{first_target_fault, Attempted}
 use Rattle.session_play.specs.Input.{Input, input_limit}
 use Rattle.session_play.specs.Play.{Act, Answer, Line, Now, Did, Goes, Next, Go, Last, Loop, again, last, cut}
 use Rattle.session_play.proofs.LooksLemmas.{neutral-did, looks-both}
@@ -133,7 +133,7 @@ failed why = Err why
 
 -- the end by its own events is what the answer tells
 told-end : (text : List ℕ) (users : List (List ℕ)) (token : ℕ) (es : List Event) (why : CommitError) (r : Refusal) → token < 2 ^ 64
-    → first_misnamed actor (additions text users) ≡ None → length users ≤ file_limit
+    → first_target_fault actor (additions text users) ≡ None → length users ≤ file_limit
     → IsCommit actor token (additions text users) [] es (failed why) → ((names : List (List ℕ)) (end : Ending) → TellsEnd names end (failed why) → end ≡ Refused r)
     → end_told actor (additions text users) [] es ≡ Refused r
 told-end text [] token es why r fits well few h say = absurd (let is = h.1 in cc is)

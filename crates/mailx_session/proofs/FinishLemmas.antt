@@ -13,37 +13,37 @@ use Rattle.session_play.specs.Play.{Next, Go, Last}
 use Rattle.session_state.specs.declared.state.SessionState.{SessionState}
 use Rattle.session_state.specs.declared.status.Status.{Status}
 use Rattle.compose_tilde.specs.declared.machine.Machine.{Machine}
-use Rattle.session_state.specs.States.{is_drafting, rested, KeepsButDraft}
+use Rattle.session_state.specs.States.{is_drafting, line_ended, KeepsButDraft}
 use Rattle.session_state.specs.Bringing.{weight}
 use Rattle.mailx_session.specs.Rounds.{DraftEnds, FinishGo, finished, onward, left, lost}
-use Rattle.session_state.proofs.RestLemmas.{rested-in, rested-out, no-both}
+use Rattle.session_state.proofs.RestLemmas.{line_ended-in, line_ended-out, no-both}
 
 -- what falls with each draft that ends
 abbrev pub open_weight : SessionState → ℕ
 open_weight s = if is_drafting s then suc (weight s) else 0
 
 -- another draft is open only where lines that waited were taken
-rested-falls : (u : SessionState) (n : ℕ) → (is_drafting u ≡ true → weight u < n) → is_drafting (rested u) ≡ true → weight (rested u) < n
-rested-falls u n less inside = go (is_drafting u) refl
+line_ended-falls : (u : SessionState) (n : ℕ) → (is_drafting u ≡ true → weight u < n) → is_drafting (line_ended u) ≡ true → weight (line_ended u) < n
+line_ended-falls u n less inside = go (is_drafting u) refl
   where
-    go : (b : Bool) → is_drafting u ≡ b → weight (rested u) < n
-    go true e = subst (λ (s : SessionState). weight s < n) (sym (rested-in u e)) (less e)
-    go false e = absurd (no-both inside (ap (λ (s : SessionState). is_drafting s) (rested-out u e) ∙ e))
+    go : (b : Bool) → is_drafting u ≡ b → weight (line_ended u) < n
+    go true e = subst (λ (s : SessionState). weight s < n) (sym (line_ended-in u e)) (less e)
+    go false e = absurd (no-both inside (ap (λ (s : SessionState). is_drafting s) (line_ended-out u e) ∙ e))
 
 on-ok : {T E : Type 0} (r : Result T E) {P Q : Type 0} → (P → Q) → OnOk r P → OnOk r Q
 on-ok (Ok t) f h = f h
 on-ok (Err e) f h = tt
 
 pub ended-falls : {T E : Type 0} (s t u : SessionState) (r : Result T E) → KeepsButDraft s t → t.draft ≡ None
-    → (is_drafting t ≡ false → OnOk r (is_drafting u ≡ true → weight u < weight t)) → OnOk r (is_drafting (rested u) ≡ true → weight (rested u) < weight s)
+    → (is_drafting t ≡ false → OnOk r (is_drafting u ≡ true → weight u < weight t)) → OnOk r (is_drafting (line_ended u) ≡ true → weight (line_ended u) < weight s)
 ended-falls s t u r keeps over falls =
     let out : is_drafting t ≡ false = ap (λ (d : Option Machine). is_some d) over in
     let same : weight t ≡ weight s = ap (λ (x : SessionState). weight x) keeps in
-    on-ok r (λ less. rested-falls u (weight s) (λ inside. subst (λ (n : ℕ). weight u < n) same (less inside))) (falls out)
+    on-ok r (λ less. line_ended-falls u (weight s) (λ inside. subst (λ (n : ℕ). weight u < n) same (less inside))) (falls out)
 
 -- where the run ends with a draft none is open
-pub ended-last : (t : SessionState) (n : ℕ) → t.draft ≡ None → is_drafting (rested t) ≡ true → weight (rested t) < n
-ended-last t n over = rested-falls t n (λ inside. absurd (no-both inside (ap (λ (d : Option Machine). is_some d) over)))
+pub ended-last : (t : SessionState) (n : ℕ) → t.draft ≡ None → is_drafting (line_ended t) ≡ true → weight (line_ended t) < n
+ended-last t n over = line_ended-falls t n (λ inside. absurd (no-both inside (ap (λ (d : Option Machine). is_some d) over)))
 
 pub open-falls : (s t : SessionState) → is_drafting s ≡ true → (is_drafting t ≡ true → weight t < weight s) → open_weight t < open_weight s
 open-falls s t inside less = subst (λ (n : ℕ). open_weight t < n) (sym (cond-true _ _ _ inside)) (go (is_drafting t) refl)

@@ -15,9 +15,9 @@ use Rattle.command_desk.specs.Answers.{OrFault}
 use Rattle.folder_commands.specs.Leaving.{quit}
 use Rattle.read_commands.specs.Origins.{commanded}
 use Rattle.session_state.specs.Saving.{commit_of}
-use Rattle.session_state.specs.States.{rested}
+use Rattle.session_state.specs.States.{line_ended}
 use Rattle.session_state.specs.declared.frames.WaitingLine.{WaitingLine}
-use Rattle.session_state.specs.declared.outcome.Outcome.{Outcome}
+use Rattle.session_state.specs.declared.outcome.SendOutcome.{SendOutcome}
 use Rattle.session_state.specs.declared.state.SessionState.{SessionState}
 use Rattle.session_state.specs.declared.status.Status.{Status}
 use Rattle.draft_sending.specs.Sending.{ended_draft, letter_of, text_of}
@@ -37,11 +37,11 @@ abbrev pub IsOf : List ℕ → ℕ → SessionState → Type 0
 IsOf actor token s = (s.actor ≡ actor) × (s.token ≡ token)
 
 -- such a state, in which drafts came to this
-abbrev pub IsLike : List ℕ → ℕ → Outcome → SessionState → Type 0
+abbrev pub IsLike : List ℕ → ℕ → SendOutcome → SessionState → Type 0
 IsLike actor token o s = IsOf actor token s × (s.outcome ≡ o)
 
 -- such a state, so
-abbrev pub IsAfter : List ℕ → ℕ → Outcome → Bool → SessionState → Type 0
+abbrev pub IsAfter : List ℕ → ℕ → SendOutcome → Bool → SessionState → Type 0
 IsAfter actor token o refused s = IsOf actor token s × CameFrom o refused s.outcome
 
 abbrev pub NextOf : List ℕ → ℕ → Next SessionState Status → Type 0
@@ -99,7 +99,7 @@ module _ (actor : List ℕ) (token : ℕ) where
     joins = λ s t n text of to is. to;
   }
 
-module _ (actor : List ℕ) (token : ℕ) (o : Outcome) where
+module _ (actor : List ℕ) (token : ℕ) (o : SendOutcome) where
   abbrev pub Plays : {R : Type 0} → (Met → R → Type 0) → Play R → Type 0
   Plays E p = Obeys (λ (met : Met). MayAsk actor token) met_by E nothing_met p
 
@@ -126,8 +126,8 @@ module _ (actor : List ℕ) (token : ℕ) (o : Outcome) where
   lines-of p obeys = walk.lines-of (AreThese actor token) (IsBy actor token) (all-by actor token) o p obeys
 
 -- a state at rest
-pub rested-of : (actor : List ℕ) (token : ℕ) (s : SessionState) → IsOf actor token s → IsOf actor token (rested s)
-rested-of actor token s of = walk.rested-of (AreThese actor token) s of
+pub line_ended-of : (actor : List ℕ) (token : ℕ) (s : SessionState) → IsOf actor token s → IsOf actor token (line_ended s)
+line_ended-of actor token s of = walk.line_ended-of (AreThese actor token) s of
 
 -- an act that a line may ask commits for its actor under its token
 pub commits-so : (actor : List ℕ) (token : ℕ) (act : Act) → MayAsk actor token act → OfCommit (IsBy actor token) act

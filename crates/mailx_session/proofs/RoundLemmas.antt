@@ -26,9 +26,9 @@ use Rattle.session_state.specs.declared.state.SessionState.{SessionState}
 use Rattle.session_state.specs.declared.status.Status.{Status}
 use Rattle.session_state.specs.Waits.{Pending}
 use Rattle.session_state.specs.Pending.{taken, capped, lines_left}
-use Rattle.session_state.specs.States.{IsSession, is_drafting, next_waiting, with_count, resumed, at_rest, rested}
+use Rattle.session_state.specs.States.{IsSession, is_drafting, next_waiting, with_count, resumed, at_rest, line_ended}
 use Rattle.mailx_session.specs.Rounds.{line_play, command_play, counted_play, is_empty, outside_play, is_uncounted, waiting_play, WaitingGo, none, more, ended, cut, short}
-use Rattle.session_state.proofs.RestLemmas.{no-both, rested-in, rested-out, rested-same, counted-rested}
+use Rattle.session_state.proofs.RestLemmas.{no-both, line_ended-in, line_ended-out, line_ended-same, counted-line_ended}
 use Rattle.session_state.proofs.PendingLemmas.{fewer-left, lines-capped, nothing-taken}
 
 no-next : {A : Type 0} {a : A} → None ≡ Some a → ⊥
@@ -60,11 +60,11 @@ waits-cut s t v cause line is same es fs so goes =
     so.whole fs (Err cause) (cut line v.frames is (subst (λ (x : SessionState). Goes (waiting_play x line) fs (Err cause)) same goes))
 
 -- where no line is left, the state is at rest but for the count
-pub rested-resumed : (t v : SessionState) → is_drafting t ≡ false → v ≡ resumed t v.frames → v.frames ≡ [] → rested v ≡ rested t
-rested-resumed t v out same over =
+pub line_ended-resumed : (t v : SessionState) → is_drafting t ≡ false → v ≡ resumed t v.frames → v.frames ≡ [] → line_ended v ≡ line_ended t
+line_ended-resumed t v out same over =
     let left : v ≡ resumed t [] = same ∙ ap (resumed t) over in
     let rests : at_rest (resumed t []) ≡ at_rest t = refl in
-    ap rested left ∙ (rested-out (resumed t []) out ∙ (rests ∙ sym (rested-out t out)))
+    ap line_ended left ∙ (line_ended-out (resumed t []) out ∙ (rests ∙ sym (line_ended-out t out)))
 
 -- the line that is carried out next, where no draft is open
 pub next-out : (s : SessionState) (o : Option (WaitingLine × List Pending)) → is_drafting s ≡ false → taken (capped (length s.desk.conditions) s.frames) ≡ o → next_waiting s ≡ o
@@ -77,8 +77,8 @@ refuses-inside s line r = ap (λ (d : Option Machine). is_some d) r.draft
 pub released-inside : (s : SessionState) (line : List ℕ) → RefusesLine s line → is_drafting (released s) ≡ true
 released-inside s line r = ap (λ (d : Option Machine). is_some (option_map idle d)) r.draft
 
-pub released-rested : (s t : SessionState) (line : List ℕ) → RefusesLine s line → t ≡ released s → rested t ≡ released s
-released-rested s t line r same = ap rested same ∙ rested-in (released s) (released-inside s line r)
+pub released-line_ended : (s t : SessionState) (line : List ℕ) → RefusesLine s line → t ≡ released s → line_ended t ≡ released s
+released-line_ended s t line r same = ap line_ended same ∙ line_ended-in (released s) (released-inside s line r)
 
 -- a line that is carried out next waits
 pub next-taken : (s : SessionState) (line : WaitingLine) (fs : List Pending) → next_waiting s ≡ Some (line, fs) → taken (capped (length s.desk.conditions) s.frames) ≡ Some (line, fs)
@@ -107,11 +107,11 @@ next-undrafting s line fs is = go (is_drafting s) refl
 pub none-next : (s t : SessionState) (line : WaitingLine) (frames : List Pending) → t ≡ s → is_drafting s ≡ true → next_waiting t ≡ Some (line, frames) → ⊥
 none-next s t line frames same inside is = no-both (ap (λ (u : SessionState). is_drafting u) same ∙ inside) (next-undrafting t line frames is)
 
-pub waits-over : (s t v : SessionState) → next_waiting t ≡ None → rested v ≡ rested t → (es : List Event) → WaitsSoFar s t es
-    → WaitingGo s es (Ok (Go (rested v)))
+pub waits-over : (s t v : SessionState) → next_waiting t ≡ None → line_ended v ≡ line_ended t → (es : List Event) → WaitsSoFar s t es
+    → WaitingGo s es (Ok (Go (line_ended v)))
 waits-over s t v over same es so =
-    subst (λ (l : List Event). WaitingGo s l (Ok (Go (rested v)))) (append-nil es)
-    (so.whole [] (Ok (Go (rested v))) (subst (λ (x : SessionState). WaitingGo t [] (Ok (Go x))) (sym same) (none over)))
+    subst (λ (l : List Event). WaitingGo s l (Ok (Go (line_ended v)))) (append-nil es)
+    (so.whole [] (Ok (Go (line_ended v))) (subst (λ (x : SessionState). WaitingGo t [] (Ok (Go x))) (sym same) (none over)))
 
 pub waits-short : (s t : SessionState) (es : List Event) → WaitsSoFar s t es → WaitingGo s es (Err stop.Memory)
 waits-short s t es so = subst (λ (l : List Event). WaitingGo s l (Err stop.Memory)) (append-nil es) (so.whole [] (Err stop.Memory) short)
@@ -128,8 +128,8 @@ uncounted-goes s line uncounted out es goes =
     subst (λ (b : Bool). Goes (if b then line_play line.origin s line.text else outside_play s line) es out) (sym uncounted) goes
 
 -- and a line of the input is the first command
-pub typed-same : (s : SessionState) → IsSession s → with_count (rested s) 1 ≡ with_count s 1
-typed-same s is = ap (λ (t : SessionState). with_count t 1) (rested-same s is)
+pub typed-same : (s : SessionState) → IsSession s → with_count (line_ended s) 1 ≡ with_count s 1
+typed-same s is = ap (λ (t : SessionState). with_count t 1) (line_ended-same s is)
 
 pub typed-goes : (s : SessionState) → IsSession s → (line : List ℕ) (es : List Event) (out : Result (Next SessionState Status) Stop)
     → Goes (line_play Input (with_count s 1) line) es out → Goes (command_play s line) es out
@@ -149,9 +149,9 @@ on-err (Ok t) f h = tt
 on-err (Err e) f h = f h
 
 -- what stays where a line of the input ends the run
-pub stays-rested : (s u : SessionState) → IsSession s → is_drafting s ≡ false → (went : Flow) → StaysAtEnd (with_count s 1) u went → StaysAtEnd s (rested u) went
-stays-rested s u is out flow.Go h = tt
-stays-rested s u is out (flow.End e) h = ap rested h ∙ (counted-rested s 1 out ∙ rested-same s is)
+pub stays-line_ended : (s u : SessionState) → IsSession s → is_drafting s ≡ false → (went : Flow) → StaysAtEnd (with_count s 1) u went → StaysAtEnd s (line_ended u) went
+stays-line_ended s u is out flow.Go h = tt
+stays-line_ended s u is out (flow.End e) h = ap line_ended h ∙ (counted-line_ended s 1 out ∙ line_ended-same s is)
 
 pub at-most : (a b c : ℕ) → a < b → b ≤ c → a ≤ c
 at-most a b c x y = omega arith

@@ -26,12 +26,12 @@ use Rattle.compose_tilde.specs.declared.machine.Machine.{Machine}
 use Rattle.session_state.specs.declared.error.RunError.{RunError}
 use Rattle.session_state.specs.declared.frames.WaitingLine.{WaitingLine}
 use Rattle.session_state.specs.declared.state.SessionState.{SessionState}
-use Rattle.session_state.specs.declared.outcome.Outcome.{Outcome}
+use Rattle.session_state.specs.declared.outcome.SendOutcome.{SendOutcome}
 use Rattle.session_state.specs.declared.status.Status.{Status}
 use Rattle.session_state.specs.Answers.{in_play}
 use Rattle.session_state.specs.Pending.{taken, capped}
 use Rattle.session_state.specs.Waits.{Pending}
-use Rattle.session_state.specs.States.{is_drafting, next_waiting, with_draft, resumed, at_rest, rested}
+use Rattle.session_state.specs.States.{is_drafting, next_waiting, with_draft, resumed, at_rest, line_ended}
 use Rattle.draft_text.specs.declared.draft.Draft.{Draft}
 use Rattle.draft_text.specs.Texts.{flattened}
 use Rattle.compose_tilde.specs.Answering.{new_machine}
@@ -44,7 +44,7 @@ use Rattle.mailx_session.specs.Rounds as rounds
 use Rattle.mailx_session.specs.Startup.{startup_play, StartupGoes, begun, unread}
 use Rattle.mailx_session.specs.Safe.{Turn, Composing, Typed, Starting, Waiting, Finishing, Leaving, TurnPlay, on_to, waiting_turn, finishing_turn, turn_play, IsStepSafe, IsSafeCall}
 use Rattle.mailx_session.proofs.ObeyLemmas.{Obeys, bind-obeys, obeys-commits, obeys-ends, Met, nothing_met, met_by}
-use Rattle.mailx_session.proofs.LineLemmas.{IsOf, IsAfter, NextOf, MayAsk, RunEnds, LineEnds, EndsAs, LeavesAs, Lines, lines-of, typed-obeys, waiting-obeys, ended-obeys, rested-of, leaving-obeys, startup-obeys, commits-so}
+use Rattle.mailx_session.proofs.LineLemmas.{IsOf, IsAfter, NextOf, MayAsk, RunEnds, LineEnds, EndsAs, LeavesAs, Lines, lines-of, typed-obeys, waiting-obeys, ended-obeys, line_ended-of, leaving-obeys, startup-obeys, commits-so}
 
 abbrev pub Ends : Type 0
 Ends = Result (Next SessionState Status) Stop
@@ -66,7 +66,7 @@ turned-cut p turn x is cause es goes = subst (λ (q : TurnPlay). Goes q es (Err 
 
 waiting-loop : {s : SessionState} {es : List Event} {out : Ends} → WaitingGo s es out → Loop turn_play (Waiting s) es out
 waiting-loop {s = s} (none none_left) =
-    last (subst (λ (q : TurnPlay). Goes q [] (Ok (Last (Go (rested s))))) (sym (ap (waiting_turn s) none_left)) (refl, inl refl))
+    last (subst (λ (q : TurnPlay). Goes q [] (Ok (Last (Go (line_ended s))))) (sym (ap (waiting_turn s) none_left)) (refl, inl refl))
 waiting-loop {s = s} (more {t = t} line frames front rest is_next is goes later) =
     again front rest is (turned (waiting_play (resumed s frames) line) Waiting (turn_play (Waiting s)) (ap (waiting_turn s) is_next) t front goes) (waiting-loop later)
 waiting-loop {s = s} {es = es} (ended {e = e} line frames is_next goes) =
@@ -114,15 +114,16 @@ same-turn x y same {es = es} (last {r = r} goes) = last (subst (λ (p : TurnPlay
 same-turn x y same {es = es} (cut {cause = cause} goes) = cut (subst (λ (p : TurnPlay). Goes p es (Err cause)) (sym same) goes)
 
 -- where no line waits, the state is as good as one at rest
-rested-as : (s : SessionState) (draft : Option Machine) → next_waiting (with_draft s draft) ≡ None → turn_play (Finishing (with_draft s draft)) ≡ turn_play (Finishing (rested (with_draft s draft)))
-rested-as s (Some m) none_left = refl
-rested-as s None none_left = ap (finishing_turn (with_draft s None)) none_left
+line_ended-as : (s : SessionState) (draft : Option Machine)
+    → next_waiting (with_draft s draft) ≡ None → turn_play (Finishing (with_draft s draft)) ≡ turn_play (Finishing (line_ended (with_draft s draft)))
+line_ended-as s (Some m) none_left = refl
+line_ended-as s None none_left = ap (finishing_turn (with_draft s None)) none_left
 
-rested-turn : (s : SessionState) → next_waiting s ≡ None → turn_play (Finishing s) ≡ turn_play (Finishing (rested s))
-rested-turn s none_left = rested-as s s.draft none_left
+line_ended-turn : (s : SessionState) → next_waiting s ≡ None → turn_play (Finishing s) ≡ turn_play (Finishing (line_ended s))
+line_ended-turn s none_left = line_ended-as s s.draft none_left
 
 waiting-leads : {s : SessionState} {es : List Event} {out : Ends} → WaitingGo s es out → LeadsOn s es out
-waiting-leads {s = s} (none none_left) = λ rest out loop. same-turn (Finishing s) (Finishing (rested s)) (rested-turn s none_left) loop
+waiting-leads {s = s} (none none_left) = λ rest out loop. same-turn (Finishing s) (Finishing (line_ended s)) (line_ended-turn s none_left) loop
 waiting-leads {s = s} {es = es} {out = out} (more {t = t} line frames front rest is_next is goes later) =
     leads-more s t front rest es out is (turned (waiting_play (resumed s frames) line) Finishing (turn_play (Finishing s)) (ap (finishing_turn s) is_next) t front goes) (waiting-leads later)
 waiting-leads {s = s} {es = es} (ended {e = e} line frames is_next goes) =
@@ -142,17 +143,17 @@ draft-leads s {es = es} drafting (told_last {e = e} goes) = last (turned-last (e
 draft-leads s {es = es} drafting (untold {cause = cause} goes) = cut (turned-cut (ended_draft s) Finishing (turn_play (Finishing s)) (draft-turn s drafting) cause es goes)
 
 -- a state at rest stays at rest
-rested-twice-as : (s : SessionState) (draft : Option Machine) → rested (rested (with_draft s draft)) ≡ rested (with_draft s draft)
-rested-twice-as s (Some m) = refl
-rested-twice-as s None = refl
+line_ended-twice-as : (s : SessionState) (draft : Option Machine) → line_ended (line_ended (with_draft s draft)) ≡ line_ended (with_draft s draft)
+line_ended-twice-as s (Some m) = refl
+line_ended-twice-as s None = refl
 
 abbrev pub AreAtRest : Ends → Type 0
-AreAtRest (Ok (Go t)) = rested t ≡ t
+AreAtRest (Ok (Go t)) = line_ended t ≡ t
 AreAtRest (Ok (Last e)) = Unit {0}
 AreAtRest (Err cause) = Unit {0}
 
 waiting-rests : {s : SessionState} {es : List Event} {out : Ends} → WaitingGo s es out → AreAtRest out
-waiting-rests {s = s} (none none_left) = rested-twice-as s s.draft
+waiting-rests {s = s} (none none_left) = line_ended-twice-as s s.draft
 waiting-rests (more line frames front rest is_next is goes later) = waiting-rests later
 waiting-rests (ended line frames is_next goes) = tt
 waiting-rests (rounds.cut line frames is_next goes) = tt
@@ -164,12 +165,12 @@ draft-rests (told_last goes) = tt
 draft-rests (untold goes) = tt
 
 -- where no draft is open, in a state at rest, no line waits
-idle-waits : (s : SessionState) → is_drafting s ≡ false → rested s ≡ s → next_waiting s ≡ None
+idle-waits : (s : SessionState) → is_drafting s ≡ false → line_ended s ≡ s → next_waiting s ≡ None
 idle-waits s free same =
     let none_left : s.frames ≡ [] = sym (ap (λ (t : SessionState). t.frames) (sym (cond-false (is_drafting s) s (at_rest s) free) ∙ same)) in
     cond-false _ _ _ free ∙ ap (λ (fs : List Pending). taken (capped (length s.desk.conditions) fs)) none_left
 
-over-turn : (s : SessionState) → is_drafting s ≡ false → rested s ≡ s → turn_play (Finishing s) ≡ Ret (Go (Leaving s))
+over-turn : (s : SessionState) → is_drafting s ≡ false → line_ended s ≡ s → turn_play (Finishing s) ≡ Ret (Go (Leaving s))
 over-turn s free same =
     let to : SessionState → TurnPlay = λ t. Ret (Go (Leaving t)) in
     ap (finishing_turn s) (idle-waits s free same) ∙ (cond-false _ _ _ free ∙ ap to same)
@@ -194,14 +195,14 @@ finish-over (onward front rest drafting is_front first later) is = finish-over l
 finish-over (left drafting goes) is = absurd (cc is)
 finish-over (lost drafting goes) is = absurd (cc is)
 
-pub finish-rests : {s : SessionState} {es : List Event} {out : Ends} → rested s ≡ s → FinishGo s es out → AreAtRest out
+pub finish-rests : {s : SessionState} {es : List Event} {out : Ends} → line_ended s ≡ s → FinishGo s es out → AreAtRest out
 finish-rests same (finished free) = same
 finish-rests same (onward front rest drafting is first later) = finish-rests (draft-rests first) later
 finish-rests same (left drafting goes) = draft-rests goes
 finish-rests same (lost drafting goes) = draft-rests goes
 
 -- the folder is left then
-left-then : (s t : SessionState) (front rest es : List Event) (r : Result Status RunError) → rested s ≡ s → es ≡ front ++ rest → FinishGo s front (Ok (Go t))
+left-then : (s t : SessionState) (front rest es : List Event) (r : Result Status RunError) → line_ended s ≡ s → es ≡ front ++ rest → FinishGo s front (Ok (Go t))
     → Goes (leaving t) rest (in_play (λ (e : Status). e) r) → Loop turn_play (Finishing s) es (in_play (λ (e : Status). Last e) r)
 left-then s t front rest es r same is finishes goes =
     subst (λ (l : List Event). Loop turn_play (Finishing s) l (in_play (λ (e : Status). Last e) r)) (sym is)
@@ -209,7 +210,7 @@ left-then s t front rest es r same is finishes goes =
     (again [] rest refl (subst (λ (q : TurnPlay). Goes q [] (Ok (Go (Leaving t))))
     (sym (over-turn t (finish-over finishes refl) (finish-rests same finishes))) (refl, inl refl)) (leaving-loop t r rest goes)))
 
-input-loop : (s : SessionState) (r : Result Status RunError) (es : List Event) → rested s ≡ s → InputEnds s es (in_play (λ (e : Status). e) r)
+input-loop : (s : SessionState) (r : Result Status RunError) (es : List Event) → line_ended s ≡ s → InputEnds s es (in_play (λ (e : Status). e) r)
     → Loop turn_play (Finishing s) es (in_play (λ (e : Status). Last e) r)
 input-loop s (Ok e) es same (then_leaves {t = t} front rest is finishes goes) = left-then s t front rest es (Ok e) same is finishes goes
 input-loop s (Ok e) es same (ends_before finishes) = finish-leads finishes
@@ -237,7 +238,7 @@ module _ (actor : List ℕ) (token : ℕ) where
   Turns p = Obeys MayTurn met_by TurnEnds nothing_met p
 
   -- a line, and the turn that follows it
-  then-turns : (o : Outcome) (p : Play (Next SessionState Status)) (turn : SessionState → Turn)
+  then-turns : (o : SendOutcome) (p : Play (Next SessionState Status)) (turn : SessionState → Turn)
       → ((s : SessionState) → IsOf actor token s → TurnOf (turn s)) → Lines actor token o p → Turns (bind p (on_to turn))
   then-turns o p turn to obeys = bind-obeys MayTurn met_by (LineEnds (IsAfter actor token o) (EndsAs o)) TurnEnds nothing_met p (on_to turn) obeys each
     where
@@ -257,9 +258,9 @@ module _ (actor : List ℕ) (token : ℕ) where
   waiting-turn-obeys s None of = tt
   waiting-turn-obeys s (Some p) of = waits-obeys s Waiting (λ t of. of) p.0 p.1 of
 
-  ends-obeys : (b : Bool) (s : SessionState) → IsOf actor token s → Turns (if b then bind (ended_draft s) (on_to Finishing) else Ret (Go (Leaving (rested s))))
+  ends-obeys : (b : Bool) (s : SessionState) → IsOf actor token s → Turns (if b then bind (ended_draft s) (on_to Finishing) else Ret (Go (Leaving (line_ended s))))
   ends-obeys true s of = then-turns s.outcome (ended_draft s) Finishing (λ t of. of) (ended-obeys actor token s.outcome s (of, λ is. is))
-  ends-obeys false s of = rested-of actor token s of
+  ends-obeys false s of = line_ended-of actor token s of
 
   finishing-turn-obeys : (s : SessionState) (next : Option (WaitingLine × List Pending)) → IsOf actor token s → Turns (finishing_turn s next)
   finishing-turn-obeys s None of = ends-obeys (is_drafting s) s of
@@ -304,7 +305,7 @@ module _ (actor : List ℕ) (token : ℕ) where
   GoesOnOf (Err cause) = Unit {0}
 
   waiting-goes-on : {s : SessionState} {es : List Event} {out : Ends} → IsOf actor token s → WaitingGo s es out → GoesOnOf out
-  waiting-goes-on {s = s} of (none none_left) = rested-of actor token s of
+  waiting-goes-on {s = s} of (none none_left) = line_ended-of actor token s of
   waiting-goes-on {s = s} of (more {t = t} line frames front rest is_next is goes later) =
       waiting-goes-on (goes-ends (NextOf actor token) (waiting_play (resumed s frames) line) front (Go t) (waits-of s line frames of) goes) later
   waiting-goes-on of (ended line frames is_next goes) = tt
@@ -388,7 +389,7 @@ module _ {H : Type 0} (w : World H) (old new : H) (s : SessionState) (fits : s.t
   left-on (Ok e) = tt
   left-on (Err e) = tt
 
-  pub input-safe : (result : Result Status RunError) → rested s ≡ s → Ran w old new (λ es. InputEnds s es (in_play (λ (e : Status). e) result))
+  pub input-safe : (result : Result Status RunError) → line_ended s ≡ s → Ran w old new (λ es. InputEnds s es (in_play (λ (e : Status). e) result))
       → IsSafeCall w old new s (Finishing s) (in_play (λ (e : Status). Last e) result)
   input-safe result same ran = λ before es at to may.
       let r = Ran-since before es ran at to in

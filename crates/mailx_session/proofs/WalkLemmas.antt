@@ -63,11 +63,11 @@ use Rattle.session_state.specs.Bringing.{call_limit, calls, with_lines}
 use Rattle.session_state.specs.Outcomes.{not_sent, status_of}
 use Rattle.session_state.specs.Placing.{placed as file_of, placed_changes}
 use Rattle.session_state.specs.Saving.{is_changed, commit_of, after_commit, saved}
-use Rattle.session_state.specs.States.{is_drafting, settled, with_desk, with_draft, with_count, without_draft, at_rest, rested, command_limit}
+use Rattle.session_state.specs.States.{is_drafting, settled, with_desk, with_draft, with_count, without_draft, at_rest, line_ended, command_limit}
 use Rattle.session_state.specs.declared.frames.WaitingLine.{WaitingLine}
 use Rattle.session_state.specs.declared.kinds.FrameKind.TheVariants as kinds
-use Rattle.session_state.specs.declared.outcome.Outcome.{Outcome}
-use Rattle.session_state.specs.declared.outcome.Outcome.TheVariants as outcome
+use Rattle.session_state.specs.declared.outcome.SendOutcome.{SendOutcome}
+use Rattle.session_state.specs.declared.outcome.SendOutcome.TheVariants as outcome
 use Rattle.session_state.specs.declared.state.SessionState.{SessionState}
 use Rattle.session_state.specs.declared.status.Status.{Status}
 use Rattle.session_state.specs.declared.status.Status.TheVariants as status
@@ -97,16 +97,16 @@ abbrev pub Keeps : Whose → SessionState → Type 0
 Keeps W s = W s.actor s.token s.desk.folder.folder
 
 -- such a state, in which drafts came to this
-abbrev pub IsLike : Whose → Outcome → SessionState → Type 0
+abbrev pub IsLike : Whose → SendOutcome → SessionState → Type 0
 IsLike W o s = Keeps W s × (s.outcome ≡ o)
 
 -- drafts that had come to this before count as refused now only if changes were refused
-abbrev pub CameFrom : Outcome → Bool → Outcome → Type 0
+abbrev pub CameFrom : SendOutcome → Bool → SendOutcome → Type 0
 CameFrom o true now = Unit {0}
 CameFrom o false now = now ≡ outcome.Refused → o ≡ outcome.Refused
 
 -- such a state, so
-abbrev pub IsAfter : Whose → Outcome → Bool → SessionState → Type 0
+abbrev pub IsAfter : Whose → SendOutcome → Bool → SessionState → Type 0
 IsAfter W o refused s = Keeps W s × CameFrom o refused s.outcome
 
 abbrev pub NextOf : Whose → Next SessionState Status → Type 0
@@ -194,10 +194,10 @@ abbrev pub RunEnds : (Status → Type 0) → Met → Status → Type 0
 RunEnds Exits met e = EndsSo Exits met.0 e
 
 -- a run ends by what became of drafts; once the folder was to be left it may end refused too
-abbrev pub EndsAs : Outcome → Status → Type 0
+abbrev pub EndsAs : SendOutcome → Status → Type 0
 EndsAs o e = e ≡ status_of o
 
-abbrev pub LeavesAs : Outcome → Status → Type 0
+abbrev pub LeavesAs : SendOutcome → Status → Type 0
 LeavesAs o e = (e ≡ status_of o) ⊎ (e ≡ status.Refused)
 
 -- a draft that begins, and the question for its subject
@@ -227,7 +227,7 @@ judged-text : (a : Option EditAnswer) → IsText (judged a)
 judged-text None = tt
 judged-text (Some a) = left-text (is_zero a.status) a.cut (trimmed a.text) too_much no_message (ended_with a.status)
 
-module _ (W : Whose) (P : Commit → Type 0) (allows : Allows W P) (o : Outcome) where
+module _ (W : Whose) (P : Commit → Type 0) (allows : Allows W P) (o : SendOutcome) where
   abbrev pub From : {R : Type 0} → Met → (Met → R → Type 0) → Play R → Type 0
   From met E p = Obeys (λ (met : Met). MayAsk P) met_by E met p
 
@@ -519,7 +519,7 @@ module _ (W : Whose) (P : Commit → Type 0) (allows : Allows W P) (o : Outcome)
   unsent-obeys b s d m line of = (tt, λ u. lost-obeys b s d m of)
 
   -- a draft that wasn't sent wasn't refused by that
-  never-refused : (n : Option ℤ) (now : Outcome) → not_sent n now ≡ outcome.Refused → now ≡ outcome.Refused
+  never-refused : (n : Option ℤ) (now : SendOutcome) → not_sent n now ≡ outcome.Refused → now ≡ outcome.Refused
   never-refused n outcome.Fine is = absurd (cc is)
   never-refused n (outcome.NotSent m) is = absurd (cc is)
   never-refused n outcome.Refused is = refl
@@ -593,18 +593,18 @@ module _ (W : Whose) (P : Commit → Type 0) (allows : Allows W P) (o : Outcome)
   drafted-obeys s None line like = same-came false s like
   drafted-obeys s (Some m) line like = line-obeys s (line_step m line (view_in s)) like
 
-  rested-as : (b : Bool) (s : SessionState) → Like s → Like (if b then s else at_rest s)
-  rested-as true s like = like
-  rested-as false s like = like
+  line_ended-as : (b : Bool) (s : SessionState) → Like s → Like (if b then s else at_rest s)
+  line_ended-as true s like = like
+  line_ended-as false s like = like
 
-  rested-like : (s : SessionState) → Like s → Like (rested s)
-  rested-like s like = rested-as (is_drafting s) s like
+  line_ended-like : (s : SessionState) → Like s → Like (line_ended s)
+  line_ended-like s like = line_ended-as (is_drafting s) s like
 
   typed-as : (b : Bool) (s : SessionState) (line : List ℕ) → Like s → Lines (if b then draft_play s line else command_play s line)
   typed-as true s line like = drafted-obeys (released s) (released s).draft line like
   typed-as false s line like =
-      let t = with_count (rested s) 1 in
-      carried-obeys t (commanded origin.Input (rested s).desk line) (allows.commands t origin.Input line (rested-like s like).0) (rested-like s like)
+      let t = with_count (line_ended s) 1 in
+      carried-obeys t (commanded origin.Input (line_ended s).desk line) (allows.commands t origin.Input line (line_ended-like s like).0) (line_ended-like s like)
 
   pub typed-obeys : (s : SessionState) (line : List ℕ) → Like s → Lines (typed_play s line)
   typed-obeys s line like = typed-as (is_drafting s) s line like
@@ -645,12 +645,12 @@ module _ (W : Whose) (P : Commit → Type 0) (allows : Allows W P) (o : Outcome)
   lines-of p obeys = obeys-ends (λ (met : Met). MayAsk P) met_by (LineEnds IsAt (EndsAs o)) (NextOf W) next-of nothing_met p obeys
 
 -- a state at rest
-rested-keeps : (W : Whose) (b : Bool) (s : SessionState) → Keeps W s → Keeps W (if b then s else at_rest s)
-rested-keeps W true s of = of
-rested-keeps W false s of = of
+line_ended-keeps : (W : Whose) (b : Bool) (s : SessionState) → Keeps W s → Keeps W (if b then s else at_rest s)
+line_ended-keeps W true s of = of
+line_ended-keeps W false s of = of
 
-pub rested-of : (W : Whose) (s : SessionState) → Keeps W s → Keeps W (rested s)
-rested-of W s of = rested-keeps W (is_drafting s) s of
+pub line_ended-of : (W : Whose) (s : SessionState) → Keeps W s → Keeps W (line_ended s)
+line_ended-of W s of = line_ended-keeps W (is_drafting s) s of
 
 -- the commit of an act that a line may ask is such
 pub commits-so : (P : Commit → Type 0) (act : Act) → MayAsk P act → OfCommit P act

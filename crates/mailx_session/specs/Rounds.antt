@@ -19,7 +19,7 @@ use Rattle.session_state.specs.declared.frames.WaitingLine.{WaitingLine}
 use Rattle.session_state.specs.declared.state.SessionState.{SessionState}
 use Rattle.session_state.specs.declared.status.Status.{Status}
 use Rattle.session_state.specs.Waits.{Pending}
-use Rattle.session_state.specs.States.{command_limit, is_drafting, next_waiting, with_count, resumed, rested}
+use Rattle.session_state.specs.States.{command_limit, is_drafting, next_waiting, with_count, resumed, line_ended}
 use Rattle.mailx_session.specs.Sessions.{carried_out}
 use Rattle.mailx_session.specs.Drafting.{draft_play}
 use Rattle.draft_sending.specs.Sending.{ended_draft}
@@ -30,7 +30,7 @@ line_play from s line = carried_out s (commanded from s.desk line)
 
 -- a line of the input that is a command: it begins the count of commands anew, and is the first of them
 abbrev pub command_play : SessionState → List ℕ → Play (Next SessionState Status)
-command_play s line = line_play Input (with_count (rested s) 1) line
+command_play s line = line_play Input (with_count (line_ended s) 1) line
 
 -- a line of the input: one of the draft, if one is open, and else a command
 abbrev pub typed_play : SessionState → List ℕ → Play (Next SessionState Status)
@@ -70,7 +70,7 @@ waiting_play s line =
 -- The lines that wait are carried out, each on the state that the one before it left, until none is left, a draft is open, the
 -- run ends or is cut off.
 pub data WaitingGo : SessionState → List Event → Result (Next SessionState Status) Stop → Type 0 where
-  none : {s : SessionState} → next_waiting s ≡ None → WaitingGo s [] (Ok (Go (rested s)))
+  none : {s : SessionState} → next_waiting s ≡ None → WaitingGo s [] (Ok (Go (line_ended s)))
   more : {s t : SessionState} {es : List Event} {out : Result (Next SessionState Status) Stop} (line : WaitingLine) (frames : List Pending) (front rest : List Event)
       → next_waiting s ≡ Some (line, frames) → es ≡ front ++ rest → Goes (waiting_play (resumed s frames) line) front (Ok (Go t))
       → WaitingGo t rest out → WaitingGo s es out

@@ -17,7 +17,7 @@ use Rattle.session_state.specs.declared.frames.WaitingLine.{WaitingLine}
 use Rattle.session_state.specs.declared.state.SessionState.{SessionState}
 use Rattle.session_state.specs.declared.status.Status.{Status}
 use Rattle.session_state.specs.Waits.{Pending}
-use Rattle.session_state.specs.States.{is_drafting, next_waiting, resumed, rested}
+use Rattle.session_state.specs.States.{is_drafting, next_waiting, resumed, line_ended}
 use Rattle.draft_text.specs.declared.draft.Draft.{Draft}
 use Rattle.session_asks.specs.Beginning.{composing}
 use Rattle.draft_sending.specs.Sending.{ended_draft}
@@ -46,12 +46,12 @@ on_to turn (Last e) = Ret (Last (Last e))
 
 -- the next of the lines that wait is carried out; if none waits the call is over
 abbrev pub waiting_turn : SessionState → Option (WaitingLine × List Pending) → TurnPlay
-waiting_turn s None = Ret (Last (Go (rested s)))
+waiting_turn s None = Ret (Last (Go (line_ended s)))
 waiting_turn s (Some (line, frames)) = bind (waiting_play (resumed s frames) line) (on_to Waiting)
 
 -- at the end of the input a line that waits is carried out; if none does a draft that is open ends; else the folder is left
 abbrev pub finishing_turn : SessionState → Option (WaitingLine × List Pending) → TurnPlay
-finishing_turn s None = if is_drafting s then bind (ended_draft s) (on_to Finishing) else Ret (Go (Leaving (rested s)))
+finishing_turn s None = if is_drafting s then bind (ended_draft s) (on_to Finishing) else Ret (Go (Leaving (line_ended s)))
 finishing_turn s (Some (line, frames)) = bind (waiting_play (resumed s frames) line) (on_to Finishing)
 
 -- the play of a turn

@@ -3,13 +3,13 @@ ghost use Rattle.std.specs.Prelude.{◌≡◌, ◌<◌, false, true, Ok, IfOk, O
 ghost use Rattle.host_port.specs.Ran.{Ran};
 ghost use Rattle.session_state.specs.Bringing.{weight};
 ghost use Rattle.mailx_session.specs.Rounds.{DraftEnds, FinishGo};
-ghost use Rattle.session_state.specs.States.{IsState, IsSession, is_drafting, rested};
+ghost use Rattle.session_state.specs.States.{IsState, IsSession, is_drafting, line_ended};
 ghost use Rattle.session_state.specs.Answers.{in_play, next_of, LineCaused, EndsByLine};
 
 use crate::lines::waiting_lines;
 use draft_sending::end_draft;
 use host_port::Host;
-use session_state::{Flow, RunError, SessionState, rest};
+use session_state::{Flow, RunError, SessionState, end_line};
 use std::alloc::Global;
 
 // Ends the draft, and carries out the lines that wait, until another one is open, unless the run ends with it.
@@ -20,10 +20,10 @@ fn end_and_go_on<H: Host>(
 ) -> Result<Flow, RunError>
     requires { IsState state.old }
     ensures ran { Ran H.world host.old host.new
-        (λ es. DraftEnds state.old es (in_play (next_of (rested state.new)) result)) }
+        (λ es. DraftEnds state.old es (in_play (next_of (line_ended state.new)) result)) }
     ensures state { IsState state.new }
     ensures falls { OnOk result
-        (is_drafting (rested state.new) ≡ true → weight (rested state.new) < weight state.old) }
+        (is_drafting (line_ended state.new) ≡ true → weight (line_ended state.new) < weight state.old) }
     ensures done { IfOk result EndsByLine }
     ensures cause { LineCaused (H.world.counts host.old) (H.world.counts host.new) result }
 {
@@ -45,7 +45,7 @@ fn end_one<H: Host>(alloc: Global, state: &mut SessionState, host: &mut H) -> Re
     ensures cause { LineCaused (H.world.counts host.old) (H.world.counts host.new) result }
 {
     let went = end_and_go_on(alloc, state, host);
-    rest(alloc, state);
+    end_line(alloc, state);
     went
 }
 

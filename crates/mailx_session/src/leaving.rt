@@ -18,7 +18,7 @@ use host_port::Host;
 use mail_text::{Items, Text};
 use read_commands::{Ask as Wanted, quit};
 use session_asks::do_asks;
-use session_state::{Asked, Flow, RunError, SessionState, Status, say, status_of};
+use session_state::{AskResult, Flow, RunError, SessionState, Status, say, status_of};
 use std::alloc::Global;
 
 // Prints the line by which the folder isn't left.
@@ -35,7 +35,7 @@ fn end_refused<H: Host>(host: &mut H, line: &Text) -> Result<Status, RunError>
 }
 
 // How the run ends, by what the answers to the asks of a quit left.
-fn end_by<H: Host>(host: &mut H, state: &SessionState, asked: Asked) -> Result<Status, RunError>
+fn end_by<H: Host>(host: &mut H, state: &SessionState, asked: AskResult) -> Result<Status, RunError>
     requires { EndsByAsk asked }
     ensures ran { Ran H.world host.old host.new
         (λ es. Goes (left_by (after_asks state.now asked)) es (in_play (λ (e : Status). e) result)) }
@@ -43,9 +43,9 @@ fn end_by<H: Host>(host: &mut H, state: &SessionState, asked: Asked) -> Result<S
     ensures cause { LineCaused (H.world.counts host.old) (H.world.counts host.new) result }
 {
     match asked {
-        Asked::On | Asked::Over => Ok(status_of(state.outcome)),
-        Asked::Refused { line } => end_refused(host, &line),
-        Asked::Ended(status) => Ok(status),
+        AskResult::On | AskResult::Over => Ok(status_of(state.outcome)),
+        AskResult::Refused { line } => end_refused(host, &line),
+        AskResult::Ended(status) => Ok(status),
     }
 }
 

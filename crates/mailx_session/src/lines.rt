@@ -11,7 +11,7 @@ ghost use Rattle.read_commands.specs.Origins.{commanded, is_startup_ask};
 ghost use Rattle.read_commands.specs.declared.origin.Origin.{Origin};
 ghost use Rattle.session_state.specs.Pending.{capped, IsTaken};
 ghost use Rattle.session_state.specs.Follows.{IsNext};
-ghost use Rattle.session_state.specs.States.{IsState, IsSession, is_drafting, resumed, rested, settled, with_frames};
+ghost use Rattle.session_state.specs.States.{IsState, IsSession, is_drafting, resumed, line_ended, settled, with_frames};
 ghost use Rattle.session_state.specs.Bringing.{weight, StaysAlike, OnlyBrings};
 ghost use Rattle.session_asks.specs.Asks.{brings, brings_lines};
 ghost use Rattle.mailx_session.specs.Rounds.{line_play, command_play, typed_play, dropped_play, counted_play, outside_play, is_uncounted, waiting_play, WaitingGo, LineGoes};
@@ -27,7 +27,7 @@ use mail_text::{Memory, Text, is_blank};
 use read_commands::{Desk, Effects, Origin, Refusal, Steps, is_defining, perform_line};
 use session_asks::do_asks;
 use session_state::{
-    Asked, Flow, RunError, SessionState, Taken, WaitingLine, cut_to, drop_lines, go_on, say,
+    AskResult, Flow, RunError, SessionState, Taken, WaitingLine, cut_to, drop_lines, go_on, say,
     say_text,
 };
 use std::alloc::Global;
@@ -76,13 +76,13 @@ pub(crate) fn carry_out<H: Host>(
     let Steps { asks, effects } = steps;
     let depth = state.frames.depth();
     match do_asks(alloc, state, host, asks) {
-        Ok(Asked::On) => match settle(state, depth, effects) {
+        Ok(AskResult::On) => match settle(state, depth, effects) {
             Ok(()) => Ok(Flow::Go),
             Err(error) => Err(error),
         },
-        Ok(Asked::Over) => Ok(Flow::Go),
-        Ok(Asked::Refused { line }) => go_on(say_text(state, host, &line)),
-        Ok(Asked::Ended(status)) => Ok(Flow::End(status)),
+        Ok(AskResult::Over) => Ok(Flow::Go),
+        Ok(AskResult::Refused { line }) => go_on(say_text(state, host, &line)),
+        Ok(AskResult::Ended(status)) => Ok(Flow::End(status)),
         Err(error) => Err(error),
     }
 }
@@ -133,13 +133,13 @@ fn command_line<H: Host>(
     ensures state { IsState state.new }
     ensures none_wait { brings_lines (commanded Origin.Input state.old.desk line.now) ≡ false → state.new.frames ≡ [] }
     ensures refused { (fault : List ℕ) → commanded Origin.Input state.old.desk line.now ≡ Err fault
-        → rested state.new ≡ state.old }
+        → line_ended state.new ≡ state.old }
     ensures goes_on { (fault : List ℕ) → commanded Origin.Input state.old.desk line.now ≡ Err fault
         → IfOk result (λ flow. flow ≡ Flow.Go) }
     ensures done { IfOk result EndsByLine }
-    ensures end { IfOk result (StaysAtEnd state.old (rested state.new)) }
+    ensures end { IfOk result (StaysAtEnd state.old (line_ended state.new)) }
     ensures err { brings_lines (commanded Origin.Input state.old.desk line.now) ≡ false
-        → OnErr result (rested state.new ≡ state.old) }
+        → OnErr result (line_ended state.new ≡ state.old) }
     ensures cause { LineCaused (H.world.counts host.old) (H.world.counts host.new) result }
 {
     state.count = 1;
@@ -160,16 +160,16 @@ fn typed_line<H: Host>(
     ensures none_wait { is_drafting state.old ≡ false
         → brings_lines (commanded Origin.Input state.old.desk line.now) ≡ false → state.new.frames ≡ [] }
     ensures refused { is_drafting state.old ≡ false → (fault : List ℕ)
-        → commanded Origin.Input state.old.desk line.now ≡ Err fault → rested state.new ≡ state.old }
+        → commanded Origin.Input state.old.desk line.now ≡ Err fault → line_ended state.new ≡ state.old }
     ensures goes_on { is_drafting state.old ≡ false → (fault : List ℕ)
         → commanded Origin.Input state.old.desk line.now ≡ Err fault → IfOk result (λ flow. flow ≡ Flow.Go) }
     ensures escape { RefusesLine state.old line.now → state.new ≡ released state.old }
     ensures escape_goes_on { RefusesLine state.old line.now → IfOk result (λ flow. flow ≡ Flow.Go) }
     ensures done { IfOk result EndsByLine }
-    ensures end { is_drafting state.old ≡ false → IfOk result (StaysAtEnd state.old (rested state.new)) }
+    ensures end { is_drafting state.old ≡ false → IfOk result (StaysAtEnd state.old (line_ended state.new)) }
     ensures err { is_drafting state.old ≡ false
         → brings_lines (commanded Origin.Input state.old.desk line.now) ≡ false
-        → OnErr result (rested state.new ≡ state.old) }
+        → OnErr result (line_ended state.new ≡ state.old) }
     ensures cause { LineCaused (H.world.counts host.old) (H.world.counts host.new) result }
 {
     if state.draft.is_some() {
@@ -354,9 +354,9 @@ pub(crate) fn waiting_lines<H: Host>(
 ) -> Result<Flow, RunError>
     requires { IsState state.old }
     ensures ran { Ran H.world host.old host.new
-        (λ es. WaitingGo state.old es (in_play (next_of (rested state.new)) result)) }
+        (λ es. WaitingGo state.old es (in_play (next_of (line_ended state.new)) result)) }
     ensures state { IsState state.new }
-    ensures nothing { state.old.frames ≡ [] → DoesNothing (rested state.old) (rested state.new) result }
+    ensures nothing { state.old.frames ≡ [] → DoesNothing (line_ended state.old) (line_ended state.new) result }
     ensures drafting { is_drafting state.old ≡ true → DoesNothing state.old state.new result }
     ensures falls { is_drafting state.old ≡ false
         → OnOk result (is_drafting state.new ≡ true → weight state.new < weight state.old) }
@@ -386,19 +386,19 @@ pub(crate) fn input_line<H: Host>(
 ) -> Result<Flow, RunError>
     requires { IsSession state.old }
     ensures ran { Ran H.world host.old host.new
-        (λ es. LineGoes state.old line.now es (in_play (next_of (rested state.new)) result)) }
+        (λ es. LineGoes state.old line.now es (in_play (next_of (line_ended state.new)) result)) }
     ensures state { IsState state.new }
     ensures refused { is_drafting state.old ≡ false → (fault : List ℕ)
-        → commanded Origin.Input state.old.desk line.now ≡ Err fault → rested state.new ≡ state.old }
+        → commanded Origin.Input state.old.desk line.now ≡ Err fault → line_ended state.new ≡ state.old }
     ensures goes_on { is_drafting state.old ≡ false → (fault : List ℕ)
         → commanded Origin.Input state.old.desk line.now ≡ Err fault → IfOk result (λ flow. flow ≡ Flow.Go) }
-    ensures escape { RefusesLine state.old line.now → rested state.new ≡ released state.old }
+    ensures escape { RefusesLine state.old line.now → line_ended state.new ≡ released state.old }
     ensures escape_goes_on { RefusesLine state.old line.now → IfOk result (λ flow. flow ≡ Flow.Go) }
     ensures done { IfOk result EndsByLine }
     ensures end { is_drafting state.old ≡ false → brings_lines (commanded Origin.Input state.old.desk line.now) ≡ false
-        → IfOk result (StaysAtEnd state.old (rested state.new)) }
+        → IfOk result (StaysAtEnd state.old (line_ended state.new)) }
     ensures err { is_drafting state.old ≡ false → brings_lines (commanded Origin.Input state.old.desk line.now) ≡ false
-        → OnErr result (rested state.new ≡ state.old) }
+        → OnErr result (line_ended state.new ≡ state.old) }
     ensures cause { LineCaused (H.world.counts host.old) (H.world.counts host.new) result }
 {
     match typed_line(alloc, state, host, line) {

@@ -7,7 +7,7 @@ ghost use Rattle.command_desk.specs.Desks.{IsDesk};
 ghost use Rattle.read_commands.specs.declared.origin.Origin.{Origin};
 ghost use Rattle.read_commands.specs.Origins.{commanded};
 ghost use Rattle.session_asks.specs.Beginning.{composing, with_new_draft};
-ghost use Rattle.session_state.specs.States.{IsState, IsSession, is_drafting, rested};
+ghost use Rattle.session_state.specs.States.{IsState, IsSession, is_drafting, line_ended};
 ghost use Rattle.mailx_session.specs.Drafting.{released};
 ghost use Rattle.mailx_session.specs.Leaving.{InputEnds};
 ghost use Rattle.mailx_session.specs.Rounds.{LineGoes};
@@ -32,7 +32,7 @@ use mbox_scan::Folder;
 use rc_conditionals::Mode;
 use read_commands::Desk;
 use session_asks::{compose, first_state, greeting, opening_of, put_folder};
-use session_state::{Flow, RunError, SessionState, Status, rest};
+use session_state::{Flow, RunError, SessionState, Status, end_line};
 use std::alloc::Global;
 use std::marker::Model;
 
@@ -112,7 +112,7 @@ impl Session {
         // the clause `safe` needs its bound of 64 bits
         let _token = self.state.token;
         let begun = compose(self.alloc, &mut self.state, host, draft);
-        rest(self.alloc, &mut self.state);
+        end_line(self.alloc, &mut self.state);
         begun
     }
 
@@ -155,7 +155,7 @@ impl Session {
         // the clause `safe` needs its bound of 64 bits
         let _token = self.state.token;
         let result = startup_file(self.alloc, &mut self.state, host, name);
-        rest(self.alloc, &mut self.state);
+        end_line(self.alloc, &mut self.state);
         result
     }
 
@@ -193,7 +193,7 @@ impl Session {
         // the clause `safe` needs its bound of 64 bits
         let _token = self.state.token;
         let result = input_line(self.alloc, &mut self.state, host, line);
-        rest(self.alloc, &mut self.state);
+        end_line(self.alloc, &mut self.state);
         result
     }
 
@@ -202,7 +202,7 @@ impl Session {
     pub fn end<H: Host>(&mut self, host: &mut H) -> Result<Status, RunError>
         ensures ran { Ran H.world host.old host.new
             (λ es. InputEnds self.old es (in_play (λ (e : Status). e) result)) }
-        ensures idle { rested self.old ≡ self.old }
+        ensures idle { line_ended self.old ≡ self.old }
         ensures stays { is_drafting self.old ≡ false → self.new ≡ self.old }
         ensures end { IfOk result IsLineEnd }
         ensures cause { LineCaused (H.world.counts host.old) (H.world.counts host.new) result }

@@ -2,7 +2,7 @@
 ghost use Rattle.std.specs.Prelude.{IfErr};
 ghost use Rattle.host_port.specs.Ran.{Ran};
 ghost use Rattle.session_play.specs.Play.{Go, Goes};
-ghost use Rattle.session_state.specs.States.{IsState, IsSession, rested};
+ghost use Rattle.session_state.specs.States.{IsState, IsSession, line_ended};
 ghost use Rattle.mailx_session.specs.Startup.{startup_play, StartupGoes, WaitsInStartup};
 ghost use Rattle.session_state.specs.Answers.{in_play, LineCaused, IsNoDiskFault};
 
@@ -45,7 +45,7 @@ pub(crate) fn startup_file<H: Host>(
 ) -> Result<(), RunError>
     requires { IsSession state.old }
     ensures ran { Ran H.world host.old host.new
-        (λ es. StartupGoes state.old name.now es (in_play (λ u. Go (rested state.new)) result)) }
+        (λ es. StartupGoes state.old name.now es (in_play (λ u. Go (line_ended state.new)) result)) }
     ensures state { IsState state.new }
     ensures no_disk { IfErr result IsNoDiskFault }
     ensures cause { LineCaused (H.world.counts host.old) (H.world.counts host.new) result }

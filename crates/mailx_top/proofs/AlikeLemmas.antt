@@ -30,10 +30,10 @@ use Rattle.compose_tilde.specs.Lines.{asks_subject}
 use Rattle.command_words.specs.declared.options.Options.{Options}
 use Rattle.command_desk.specs.Answers.{OrFault}
 use Rattle.session_state.specs.Placing.{placed}
-use Rattle.session_state.specs.States.{is_drafting, next_waiting, resumed, rested}
+use Rattle.session_state.specs.States.{is_drafting, next_waiting, resumed, line_ended}
 use Rattle.session_state.specs.Waits.{Pending}
 use Rattle.session_state.specs.declared.frames.WaitingLine.{WaitingLine}
-use Rattle.session_state.specs.declared.outcome.Outcome.{Outcome}
+use Rattle.session_state.specs.declared.outcome.SendOutcome.{SendOutcome}
 use Rattle.session_state.specs.declared.state.SessionState.{SessionState}
 use Rattle.session_state.specs.declared.status.Status.{Status}
 use Rattle.session_state.specs.declared.status.Status.TheVariants as status
@@ -80,7 +80,7 @@ asks-no-line actor token (Editor name shell command text) u = refl
 asks-no-line actor token (Now tz) u = refl
 asks-no-line actor token (Know q) u = refl
 
-no-line : {R : Type 0} (actor : List ℕ) (token : ℕ) (o : Outcome) (E : Met → R → Type 0) (p : Play R) → Plays actor token o E p → AllActs takes_no_line p
+no-line : {R : Type 0} (actor : List ℕ) (token : ℕ) (o : SendOutcome) (E : Met → R → Type 0) (p : Play R) → Plays actor token o E p → AllActs takes_no_line p
 no-line actor token o E p obeys = obeys-acts (λ (met : Met). MayAsk actor token) met_by takes_no_line E (λ met act may. asks-no-line actor token act may) nothing_met p obeys
 
 lines-none : (s : SessionState) (p : Play (Next SessionState Status)) → Lines s.actor s.token s.outcome p → AllActs takes_no_line p
@@ -118,7 +118,8 @@ files-alike : (start : Start) (names : List (List ℕ)) (n : Next SessionState S
 files-alike start names (Go s) = ret prepares
 files-alike start names (Last e) = ret refl
 
-behind-alike : (b : Bool) (s : SessionState) (i j : Input) → Rounds i j (Ret (Go (if b then Finishing s i else Leaving (rested s) i))) (Ret (Go (if b then Finishing s j else Leaving (rested s) j)))
+behind-alike : (b : Bool) (s : SessionState) (i j : Input)
+    → Rounds i j (Ret (Go (if b then Finishing s i else Leaving (line_ended s) i))) (Ret (Go (if b then Finishing s j else Leaving (line_ended s) j)))
 behind-alike true s i j = ret finishes
 behind-alike false s i j = ret leaves
 
@@ -142,7 +143,8 @@ line-alike s i j (Some p) = then-alike (NextAlike Same) i j (waiting_play (resum
 -- ---- the end of the input, and start-up files
 
 drafts-alike : (b : Bool) (s : SessionState) (i j : Input)
-    → Rounds i j (if b then bind (ended_draft s) (with_finishing i) else Ret (Go (Leaving (rested s) i))) (if b then bind (ended_draft s) (with_finishing j) else Ret (Go (Leaving (rested s) j)))
+    → Rounds i j (if b then bind (ended_draft s) (with_finishing i) else Ret (Go (Leaving (line_ended s) i)))
+      (if b then bind (ended_draft s) (with_finishing j) else Ret (Go (Leaving (line_ended s) j)))
 drafts-alike true s i j = then-alike (NextAlike Same) i j (ended_draft s) (with_finishing i) (with_finishing j) (ended-none s) (finishing-alike i j)
 drafts-alike false s i j = ret leaves
 
@@ -158,7 +160,7 @@ next-file start s [] = ret opens
 next-file start s (name ∷ names) = then-alike (NextAlike Same) no_input no_input (startup_play s name) (with_files start names) (with_files start names) (startup-none s name) (files-alike start names)
 
 file-alike : (start : Start) (s : SessionState) (names : List (List ℕ)) (next : Option (WaitingLine × List Pending)) → Early (file_round start s names next)
-file-alike start s names None = next-file start (rested s) names
+file-alike start s names None = next-file start (line_ended s) names
 file-alike start s names (Some p) =
     then-alike (NextAlike Same) no_input no_input (waiting_play (resumed s p.1) p.0) (with_files start names) (with_files start names) (waiting-none (resumed s p.1) p.0) (files-alike start names)
 

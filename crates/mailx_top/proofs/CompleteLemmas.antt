@@ -17,8 +17,8 @@ use Rattle.session_play.specs.Play.{Caused, Act, Answer, Play, Ret, Ask, Goes, N
 use Rattle.session_play.proofs.ShapeLemmas.{came-same}
 use Rattle.session_state.specs.Outcomes.{status_of}
 use Rattle.session_state.specs.Saving.{is_refused}
-use Rattle.session_state.specs.declared.outcome.Outcome.{Outcome}
-use Rattle.session_state.specs.declared.outcome.Outcome.TheVariants as outcome
+use Rattle.session_state.specs.declared.outcome.SendOutcome.{SendOutcome}
+use Rattle.session_state.specs.declared.outcome.SendOutcome.TheVariants as outcome
 use Rattle.session_state.specs.declared.status.Status.{Status}
 use Rattle.session_state.specs.declared.status.Status.TheVariants as status
 use Rattle.mailx_session.proofs.ObeyLemmas.{Met, nothing_met, met_by}
@@ -49,7 +49,7 @@ fine-so : (b : Bool) (P : Type 0) → Fine b P → P
 fine-so true P never = absurd never
 fine-so false P p = p
 
-module _ (env : Environment) (actor : List ℕ) (token : ℕ) (opens : Bool) (o : Outcome) (Leads : RunState → Type 0) (Exits : Status → Type 0) where
+module _ (env : Environment) (actor : List ℕ) (token : ℕ) (opens : Bool) (o : SendOutcome) (Leads : RunState → Type 0) (Exits : Status → Type 0) where
   goes-came : (met : Met) (i : Input) (p : Play (Next RunState Status)) (es : List Event) (y : RunState)
       → Rounds env actor token opens (Leading o Leads) Exits (met, i) p → (goes : Goes p es (Ok (Go y)))
       → CameFrom o (met.1 || some_act refused_test p es (Ok (Go y)) goes) (outcome_in y)
@@ -69,7 +69,7 @@ round-came env x y es goes = any-round env _ x (λ actor token of.
     goes-came env actor token (is_opening x) (outcome_in x) (LeadsFrom x) (ExitsFrom x) nothing_met (input_of x) (round env x) es y (round-obeys env actor token x of) goes)
 
 -- what had become of drafts before the last round
-abbrev last_in : {round : RunState → Play (Next RunState Status)} {x : RunState} {es : List Event} {out : Result Status Stop} → Loop round x es out → Outcome
+abbrev last_in : {round : RunState → Play (Next RunState Status)} {x : RunState} {es : List Event} {out : Result Status Stop} → Loop round x es out → SendOutcome
 last_in (again front rest is goes more) = last_in more
 last_in (last {x = x} goes) = outcome_in x
 last_in (cut {x = x} goes) = outcome_in x
@@ -78,7 +78,7 @@ or-later : (a b : Bool) → b ≡ true → (a || b) ≡ true
 or-later true b is = refl
 or-later false b is = is
 
-came-or : (o now : Outcome) (b later : Bool) → CameFrom o b now → now ≡ outcome.Refused → (o ≡ outcome.Refused) ⊎ ((b || later) ≡ true)
+came-or : (o now : SendOutcome) (b later : Bool) → CameFrom o b now → now ≡ outcome.Refused → (o ≡ outcome.Refused) ⊎ ((b || later) ≡ true)
 came-or o now true later came is = inr refl
 came-or o now false later came is = inl (came is)
 
@@ -95,24 +95,24 @@ loop-came env (cut goes) came = inl came
 
 -- ---- a run is refused at its end only so
 
-before-draft : (o : Outcome) (e : Status) → is_refused_before o e ≡ true → (o ≡ outcome.Refused) ⊎ (o ≡ outcome.Unrecorded)
+before-draft : (o : SendOutcome) (e : Status) → is_refused_before o e ≡ true → (o ≡ outcome.Refused) ⊎ (o ≡ outcome.Unrecorded)
 before-draft outcome.Fine e is = absurd (cc is)
 before-draft (outcome.NotSent n) e is = absurd (cc is)
 before-draft outcome.Refused e is = inl refl
 before-draft outcome.Unrecorded e is = inr refl
 
 -- why the end of a run is refused
-abbrev IsWhy : Outcome → Outcome → Bool → Type 0
+abbrev IsWhy : SendOutcome → SendOutcome → Bool → Type 0
 IsWhy now before refused = (now ≡ outcome.Refused) ⊎ ((before ≡ outcome.Unrecorded) ⊎ (refused ≡ true))
 
-by-draft : (o : Outcome) (e : Status) (refused : Bool) → is_refused_before o e ≡ true → IsWhy o o refused
+by-draft : (o : SendOutcome) (e : Status) (refused : Bool) → is_refused_before o e ≡ true → IsWhy o o refused
 by-draft o e refused is = go (before-draft o e is)
   where
     go : (o ≡ outcome.Refused) ⊎ (o ≡ outcome.Unrecorded) → IsWhy o o refused
     go (inl so) = inl so
     go (inr so) = inr (inl so)
 
-by-end : (o : Outcome) (e : Status) (quit refused : Bool) → (quit ≡ true → refused ≡ true) → (quit || is_refused_before o e) ≡ true → IsWhy o o refused
+by-end : (o : SendOutcome) (e : Status) (quit refused : Bool) → (quit ≡ true → refused ≡ true) → (quit || is_refused_before o e) ≡ true → IsWhy o o refused
 by-end o e true refused met is = inr (inr (met refl))
 by-end o e false refused met is = by-draft o e refused is
 
@@ -160,7 +160,7 @@ unrefused env start loop free recorded refused = go (loop-why env loop refused)
 plain-limit : (r : Status) → IsOther r → r ≡ status.InputLimit → ⊥
 plain-limit r other is = subst IsOther is other
 
-outcome-limit : (o : Outcome) → status_of o ≡ status.InputLimit → ⊥
+outcome-limit : (o : SendOutcome) → status_of o ≡ status.InputLimit → ⊥
 outcome-limit outcome.Fine is = absurd (cc is)
 outcome-limit (outcome.NotSent n) is = absurd (cc is)
 outcome-limit outcome.Refused is = absurd (cc is)

@@ -23,14 +23,14 @@ use Rattle.session_state.specs.Saving.{is_changed, refuses, is_refused, after_co
 use Rattle.session_asks.specs.Asks.{asked}
 use Rattle.mailx_session.specs.Leaving.{left_by}
 use Rattle.mailx_top.specs.Meaning.{RunState, last_round}
-use Rattle.session_state.specs.declared.outcome.Outcome.{Outcome}
-use Rattle.session_state.specs.declared.outcome.Outcome.TheVariants as outcome
+use Rattle.session_state.specs.declared.outcome.SendOutcome.{SendOutcome}
+use Rattle.session_state.specs.declared.outcome.SendOutcome.TheVariants as outcome
 use Rattle.session_state.specs.Outcomes.{status_of}
 use Rattle.mailx_top.specs.Leavings.{first_answer, left_changes, is_quit_refused, is_refused_before}
 use Rattle.mailx_top.specs.Met.{some_act}
 
 -- a line ends the run by what became of drafts, or since the record can't be read
-abbrev pub EndsBy : Outcome → Status → Type 0
+abbrev pub EndsBy : SendOutcome → Status → Type 0
 EndsBy o e = (e ≡ status_of o) ⊎ (e ≡ status.BadRecord)
 
 -- the ends of a session by its last quit and its drafts: it is refused, or done, which stands for one that wasn't sent and for a record that can't
@@ -45,30 +45,30 @@ opened_end (status.NotSent n) = status.Done
 opened_end e = e
 
 -- a run that ends by what became of drafts, and one that ends for its record
-pub outcome-end : (o : Outcome) → opened_end (status_of o) ≡ end_at (is_refused_before o (status_of o))
+pub outcome-end : (o : SendOutcome) → opened_end (status_of o) ≡ end_at (is_refused_before o (status_of o))
 outcome-end outcome.Fine = refl
 outcome-end (outcome.NotSent n) = refl
 outcome-end outcome.Refused = refl
 outcome-end outcome.Unrecorded = refl
 
-pub record-end : (o : Outcome) → status.Done ≡ end_at (is_refused_before o status.BadRecord)
+pub record-end : (o : SendOutcome) → status.Done ≡ end_at (is_refused_before o status.BadRecord)
 record-end outcome.Fine = refl
 record-end (outcome.NotSent n) = refl
 record-end outcome.Refused = refl
 record-end outcome.Unrecorded = refl
 
 -- a quit that was refused or not ends the run so
-abbrev pub EndsByQuit : Outcome → Bool → Status → Type 0
+abbrev pub EndsByQuit : SendOutcome → Bool → Status → Type 0
 EndsByQuit o true e = e ≡ status.Refused
 EndsByQuit o false e = EndsBy o e
 
-pub quit-end : (o : Outcome) (b : Bool) (e : Status) → EndsByQuit o b e → opened_end e ≡ end_at (b || is_refused_before o e)
+pub quit-end : (o : SendOutcome) (b : Bool) (e : Status) → EndsByQuit o b e → opened_end e ≡ end_at (b || is_refused_before o e)
 quit-end o true e is = ap opened_end is
 quit-end o false e (inl is) = subst (λ (e : Status). opened_end e ≡ end_at (is_refused_before o e)) (sym is) (outcome-end o)
 quit-end o false e (inr is) = subst (λ (e : Status). opened_end e ≡ end_at (is_refused_before o e)) (sym is) (record-end o)
 
 -- the round ends the run so
-abbrev EndsAt : Outcome → Bool → Next RunState Status → Type 0
+abbrev EndsAt : SendOutcome → Bool → Next RunState Status → Type 0
 EndsAt o b (Go y) = ⊥
 EndsAt o b (Last r) = EndsByQuit o b r
 

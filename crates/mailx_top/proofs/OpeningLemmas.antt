@@ -30,7 +30,7 @@ use Rattle.session_play.specs.Acts.{AllActs, AllEnds, loads_nothing}
 use Rattle.session_play.specs.Causes.{some_load_saw, counted, events_at}
 use Rattle.session_play.proofs.SawLemmas.{Unseen, goes-unseen}
 use Rattle.session_play.proofs.ShapeLemmas.{came-same, goes-ends}
-use Rattle.session_state.specs.declared.outcome.Outcome.{Outcome}
+use Rattle.session_state.specs.declared.outcome.SendOutcome.{SendOutcome}
 use Rattle.mailx_top.specs.Leavings.{first_answer, is_quit_refused, is_refused_before, is_refused_at, refused_at_end}
 use Rattle.mailx_session.proofs.ObeyLemmas.{obeys-acts, obeys-ends, nothing_met}
 use Rattle.mailx_top.proofs.LeavingLemmas.{EndsBy, end_at, opened_end, quit-end, last-ends}
@@ -38,7 +38,7 @@ use Rattle.command_words.specs.declared.options.Options.{Options}
 use Rattle.mailx_top.proofs.RoundLemmas.{IsBefore, IsReadingState, Standing, after_act, May, OpenEnds, Opens, end_by, end_of, loaded-obeys, sent, asks_in, begun_in, sent-obeys, goes-on, goes-over}
 use Rattle.mailx_top.specs.Openings.{IsNoName, OpensBadly, OpenedBadly, saw_held, is_no_folder, is_named, saw_no_mail, saw_no_folder, OpensNoMail, OpensNone, IsOpeningExplained}
 
-line-end : (o : Outcome) (e : Status) → EndsBy o e → opened_end e ≡ end_at (is_refused_before o e)
+line-end : (o : SendOutcome) (e : Status) → EndsBy o e → opened_end e ≡ end_at (is_refused_before o e)
 line-end o e by_line = quit-end o false e by_line
 
 -- another end is itself
@@ -450,7 +450,7 @@ or-later never (inl a) = absurd (never a)
 or-later never (inr b) = b
 
 -- where a start-up file's round ends the run, it ends as a line does
-files-last : (o : Outcome) (start : Start) (r : Status) → EndsBy o r → IsOpeningExplained ⊥ (Some start) (Ok r) [] (is_refused_before o r)
+files-last : (o : SendOutcome) (start : Start) (r : Status) → EndsBy o r → IsOpeningExplained ⊥ (Some start) (Ok r) [] (is_refused_before o r)
 files-last o start r by_line = explained-open (is_refused_before o r) ⊥ (Some start) [] (Ok r) (matches-sent start [] (record { held = refl; folder = refl; mail = refl })) (line-end o r by_line)
 
 -- a round before the opening, and what follows it

@@ -37,8 +37,8 @@ use Rattle.mailx_top.specs.Starts.{is_bad_record}
 use Rattle.mailx_top.specs.Unreadable.{is_unreadable, met_unreadable, some_unreadable, some_unreadable_in, IsRecordExplained}
 use Rattle.mailx_top.proofs.RoundLemmas.{StateOf, outcome_in, Leading, LeadsFrom, ExitsFrom, RoundEnds, Rounds, round-obeys, round-of}
 use Rattle.mailx_session.proofs.ObeyLemmas.{answers_unreadable, found_unreadable, unreadable_by, Met, nothing_met, met_by}
-use Rattle.session_state.specs.declared.outcome.Outcome.{Outcome}
-use Rattle.session_state.specs.declared.outcome.Outcome.TheVariants as outcome
+use Rattle.session_state.specs.declared.outcome.SendOutcome.{SendOutcome}
+use Rattle.session_state.specs.declared.outcome.SendOutcome.TheVariants as outcome
 use Rattle.session_state.specs.Outcomes.{status_of}
 use Rattle.mailx_top.specs.Leavings.{is_for_record}
 
@@ -144,7 +144,7 @@ module _ (actor : List ℕ) (token : ℕ) (fits : token < 2 ^ 64) where
     goes-told met i (Ask act go) es n obeys (inr (cause, other, how)) = absurd (cc other)
 
 -- a run that nothing else ends doesn't end for its record
-not-for-record : (o : Outcome) → is_for_record (status_of o) ≡ false
+not-for-record : (o : SendOutcome) → is_for_record (status_of o) ≡ false
 not-for-record outcome.Fine = refl
 not-for-record (outcome.NotSent n) = refl
 not-for-record outcome.Refused = refl

@@ -24,11 +24,11 @@ use Rattle.compose_tilde.specs.Lines.{asks_subject}
 use Rattle.command_words.specs.declared.options.Options.{Options}
 use Rattle.command_desk.specs.Answers.{OrFault}
 use Rattle.session_state.specs.Placing.{placed}
-use Rattle.session_state.specs.States.{is_drafting, next_waiting, resumed, at_rest, rested}
+use Rattle.session_state.specs.States.{is_drafting, next_waiting, resumed, at_rest, line_ended}
 use Rattle.session_state.specs.Waits.{Pending}
 use Rattle.session_state.specs.declared.frames.WaitingLine.{WaitingLine}
-use Rattle.session_state.specs.declared.outcome.Outcome.{Outcome}
-use Rattle.session_state.specs.declared.outcome.Outcome.TheVariants as outcome
+use Rattle.session_state.specs.declared.outcome.SendOutcome.{SendOutcome}
+use Rattle.session_state.specs.declared.outcome.SendOutcome.TheVariants as outcome
 use Rattle.session_state.specs.declared.state.SessionState.{SessionState}
 use Rattle.session_state.specs.declared.status.Status.{Status}
 use Rattle.session_state.specs.declared.status.Status.TheVariants as status
@@ -39,7 +39,7 @@ use Rattle.mailx_session.specs.Leaving.{leaving}
 use Rattle.mailx_session.specs.Rounds.{typed_play, waiting_play}
 use Rattle.mailx_session.specs.Startup.{startup_play}
 use Rattle.mailx_session.proofs.ObeyLemmas.{Obeys, obeys-weaker, obeys-acts, obeys-commits, obeys-ends, Met, nothing_met, met_by}
-use Rattle.mailx_session.proofs.LineLemmas.{IsOf, CameFrom, IsAfter, MayAsk, Fine, EndsSo, RunEnds, LineEnds, EndsAs, LeavesAs, Lines, typed-obeys, waiting-obeys, ended-obeys, leaving-obeys, startup-obeys, rested-of}
+use Rattle.mailx_session.proofs.LineLemmas.{IsOf, CameFrom, IsAfter, MayAsk, Fine, EndsSo, RunEnds, LineEnds, EndsAs, LeavesAs, Lines, typed-obeys, waiting-obeys, ended-obeys, leaving-obeys, startup-obeys, line_ended-of}
 use Rattle.mailx_top.specs.declared.environment.Environment.{Environment}
 use Rattle.mailx_top.specs.declared.words.Manner.{Manner}
 use Rattle.mailx_top.specs.declared.words.Manner.TheVariants.{Silent, Rows, Quiet, Greeting}
@@ -137,7 +137,7 @@ abbrev pub after_act : Standing → (act : Act) → Answer act → Standing
 after_act x act answer = (met_by x.0 act answer, input_after act answer x.1)
 
 -- what became of drafts so far
-abbrev pub outcome_in : RunState → Outcome
+abbrev pub outcome_in : RunState → SendOutcome
 outcome_in (Recovering start) = outcome.Fine
 outcome_in (Preparing start s names) = s.outcome
 outcome_in (Opening start s) = s.outcome
@@ -146,7 +146,7 @@ outcome_in (Finishing s i) = s.outcome
 outcome_in (Leaving s i) = s.outcome
 
 -- a round leads to such a state, in which a draft counts as refused only if it did before or changes were refused
-abbrev pub Leading : Outcome → (RunState → Type 0) → Bool → RunState → Type 0
+abbrev pub Leading : SendOutcome → (RunState → Type 0) → Bool → RunState → Type 0
 Leading o Leads refused y = Leads y × CameFrom o refused (outcome_in y)
 
 module _ (env : Environment) (actor : List ℕ) (token : ℕ) where
@@ -179,7 +179,8 @@ module _ (env : Environment) (actor : List ℕ) (token : ℕ) where
   lifted E Leads Exits met i (Ask (Know texts) go) k obeys more = ((tt, refl, tt), λ a. lifted E Leads Exits met i (go a) k (obeys.1 a) more)
 
   -- a line, and the round that follows it
-  then-rounds : (o : Outcome) (Leads : Bool → RunState → Type 0) (i : Input) (p : Play (Next SessionState Status)) (k : Next SessionState Status → Play (Next RunState Status)) → Lines actor token o p
+  then-rounds : (o : SendOutcome) (Leads : Bool → RunState → Type 0) (i : Input) (p : Play (Next SessionState Status)) (k : Next SessionState Status → Play (Next RunState Status))
+      → Lines actor token o p
       → ((b : Bool) (s : SessionState) → IsAfter actor token o b s → Rounds false Leads (EndsAs o) ((false, b), i) (k (Go s)))
       → ((met : Met) (e : Status) → EndsSo (EndsAs o) met.0 e → Rounds false Leads (EndsAs o) (met, i) (k (Last e)))
       → Rounds false Leads (EndsAs o) (nothing_met, i) (bind p k)
@@ -200,19 +201,19 @@ module _ (env : Environment) (actor : List ℕ) (token : ℕ) where
   -- ---- the input
 
   -- at rest drafts have come to the same
-  rested-came : (s : SessionState) → (rested s).outcome ≡ outcome.Refused → s.outcome ≡ outcome.Refused
-  rested-came s = go (is_drafting s)
+  line_ended-came : (s : SessionState) → (line_ended s).outcome ≡ outcome.Refused → s.outcome ≡ outcome.Refused
+  line_ended-came s = go (is_drafting s)
     where
       go : (b : Bool) → (if b then s else at_rest s).outcome ≡ outcome.Refused → s.outcome ≡ outcome.Refused
       go true is = is
       go false is = is
 
-  abbrev Reads : Outcome → Input → Play (Next RunState Status) → Type 0
+  abbrev Reads : SendOutcome → Input → Play (Next RunState Status) → Type 0
   Reads o i p = Rounds false (Leading o IsReadingState) (EndsAs o) (nothing_met, i) p
 
-  behind-obeys : (b : Bool) (s : SessionState) (j : Input) → IsOf actor token s → Reads s.outcome j (Ret (Go (if b then Finishing s j else Leaving (rested s) j)))
+  behind-obeys : (b : Bool) (s : SessionState) (j : Input) → IsOf actor token s → Reads s.outcome j (Ret (Go (if b then Finishing s j else Leaving (line_ended s) j)))
   behind-obeys true s j of = (refl, of, (tt, λ is. is))
-  behind-obeys false s j of = (refl, rested-of actor token s of, (tt, rested-came s))
+  behind-obeys false s j of = (refl, line_ended-of actor token s of, (tt, line_ended-came s))
 
   turn-obeys : (s : SessionState) (j : Input) (line : Option (List ℕ)) → IsOf actor token s → Reads s.outcome j (turn s j line)
   turn-obeys s j None of = behind-obeys (is_drafting s) s j of
@@ -225,7 +226,7 @@ module _ (env : Environment) (actor : List ℕ) (token : ℕ) where
   next-obeys false s i of = ((refl, refl, tt), λ a. turn-obeys s a.1 a.0 of)
 
   unless-obeys : (b : Bool) (s : SessionState) (i : Input) → IsOf actor token s → Reads s.outcome i (next_unless b s i)
-  unless-obeys true s i of = (refl, rested-of actor token s of, (tt, rested-came s))
+  unless-obeys true s i of = (refl, line_ended-of actor token s of, (tt, line_ended-came s))
   unless-obeys false s i of = next-obeys (at_prompt s) s i of
 
   line-obeys : (s : SessionState) (i : Input) (next : Option (WaitingLine × List Pending)) → IsOf actor token s → Reads s.outcome i (line_round s i next)
@@ -234,11 +235,11 @@ module _ (env : Environment) (actor : List ℕ) (token : ℕ) where
 
   -- ---- the end of the input
 
-  drafts-obey : (b : Bool) (s : SessionState) (i : Input) → IsOf actor token s → Reads s.outcome i (if b then bind (ended_draft s) (with_finishing i) else Ret (Go (Leaving (rested s) i)))
+  drafts-obey : (b : Bool) (s : SessionState) (i : Input) → IsOf actor token s → Reads s.outcome i (if b then bind (ended_draft s) (with_finishing i) else Ret (Go (Leaving (line_ended s) i)))
   drafts-obey true s i of =
       then-rounds s.outcome (Leading s.outcome IsReadingState) i (ended_draft s) (with_finishing i)
       (ended-obeys actor token s.outcome s (of, λ is. is)) (λ b t of. (refl, of.0, (tt, of.1))) (λ met e is. is)
-  drafts-obey false s i of = (refl, rested-of actor token s of, (tt, rested-came s))
+  drafts-obey false s i of = (refl, line_ended-of actor token s of, (tt, line_ended-came s))
 
   finishing-obeys : (s : SessionState) (i : Input) (next : Option (WaitingLine × List Pending)) → IsOf actor token s → Reads s.outcome i (finishing_round s i next)
   finishing-obeys s i None of = drafts-obey (is_drafting s) s i of
@@ -246,7 +247,7 @@ module _ (env : Environment) (actor : List ℕ) (token : ℕ) where
 
   -- ---- the start-up files
 
-  files-obey : (o : Outcome) (start : Start) (s : SessionState) (names : List (List ℕ)) → IsAfter actor token o false s
+  files-obey : (o : SendOutcome) (start : Start) (s : SessionState) (names : List (List ℕ)) → IsAfter actor token o false s
       → Rounds false (Leading o (IsBefore start)) (EndsAs o) (nothing_met, no_input) (next_file start s names)
   files-obey o start s [] of = (refl, of.0, (refl, of.1))
   files-obey o start s (name ∷ names) of =
@@ -254,7 +255,7 @@ module _ (env : Environment) (actor : List ℕ) (token : ℕ) where
 
   file-obeys : (start : Start) (s : SessionState) (names : List (List ℕ)) (next : Option (WaitingLine × List Pending)) → IsOf actor token s
       → Rounds false (Leading s.outcome (IsBefore start)) (EndsAs s.outcome) (nothing_met, no_input) (file_round start s names next)
-  file-obeys start s names None of = files-obey s.outcome start (rested s) names (rested-of actor token s of, rested-came s)
+  file-obeys start s names None of = files-obey s.outcome start (line_ended s) names (line_ended-of actor token s of, line_ended-came s)
   file-obeys start s names (Some p) of = waits-obeys (Leading s.outcome (IsBefore start)) s no_input p (with_files start names) of (λ b t of. (refl, of.0, (refl, of.1))) (λ met e is. is)
 
   -- ---- the recovery
@@ -281,11 +282,11 @@ module _ (env : Environment) (actor : List ℕ) (token : ℕ) where
   -- ---- the opening
 
   -- an opening leads to this end; it is done if the folder is open, in a state in which drafts came to this
-  abbrev pub OpenEnds : Outcome → Status → Standing → Next RunState Status → Type 0
+  abbrev pub OpenEnds : SendOutcome → Status → Standing → Next RunState Status → Type 0
   OpenEnds o w x (Go y) = Fine x.0.0 ((x.1 ≡ input_of y) × StateOf env actor token y × IsReadingState y × (w ≡ status.Done) × (outcome_in y ≡ o))
   OpenEnds o w x (Last e) = Fine x.0.0 ((e ≡ w) × (opened_end e ≡ e) × (is_for_record e ≡ false) × IsOther e)
 
-  abbrev pub Opens : Outcome → Status → Play (Next RunState Status) → Type 0
+  abbrev pub Opens : SendOutcome → Status → Play (Next RunState Status) → Type 0
   Opens o w p = Obeys (May loads_nothing) after_act (OpenEnds o w) (nothing_met, no_input) p
 
   greeted-obeys : (manner : Manner) (s : SessionState) → IsOf actor token s → Opens s.outcome status.Done (greeted manner s)
@@ -318,12 +319,12 @@ module _ (env : Environment) (actor : List ℕ) (token : ℕ) where
   sent-obeys false t of = (refl, of, tt, refl, refl)
 
   -- drafts that have come to the same
-  same-came : (o : Outcome) (b : Bool) (now : Outcome) → now ≡ o → CameFrom o b now
+  same-came : (o : SendOutcome) (b : Bool) (now : SendOutcome) → now ≡ o → CameFrom o b now
   same-came o true now same = tt
   same-came o false now same = λ is. sym same ∙ is
 
   -- what an opening leads to, as a round
-  opens-so : (o : Outcome) (w : Status) (p : Play (Next RunState Status)) → Opens o w p → Rounds true (Leading o IsReadingState) IsPlain (nothing_met, no_input) p
+  opens-so : (o : SendOutcome) (w : Status) (p : Play (Next RunState Status)) → Opens o w p → Rounds true (Leading o IsReadingState) IsPlain (nothing_met, no_input) p
   opens-so o w p obeys =
       obeys-weaker (May loads_nothing) after_act (May (may_load true)) (OpenEnds o w) (RoundEnds (Leading o IsReadingState) IsPlain)
       (λ x act may. (may.0, may-all true act may.1, may.2)) ends (nothing_met, no_input) p obeys

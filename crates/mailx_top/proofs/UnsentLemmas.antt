@@ -7,8 +7,8 @@ use Rattle.std.specs.declared.result.Result.TheVariants.{Ok, Err}
 use Rattle.host_port.specs.declared.event.Event.{Event}
 use Rattle.session_play.specs.declared.stop.Stop.{Stop}
 use Rattle.session_play.specs.Play.{Last, Goes, Loop, again, last, cut}
-use Rattle.session_state.specs.declared.outcome.Outcome.{Outcome}
-use Rattle.session_state.specs.declared.outcome.Outcome.TheVariants as outcome
+use Rattle.session_state.specs.declared.outcome.SendOutcome.{SendOutcome}
+use Rattle.session_state.specs.declared.outcome.SendOutcome.TheVariants as outcome
 use Rattle.session_state.specs.declared.status.Status.{Status}
 use Rattle.session_state.specs.declared.status.Status.TheVariants as status
 use Rattle.session_state.specs.Outcomes.{status_of}
@@ -21,21 +21,21 @@ use Rattle.mailx_top.proofs.RoundLemmas.{IsOther, IsPlain, goes-over}
 ok-same : {r e : Status} → (let a : Result Status Stop = Ok r in a) ≡ Ok e → r ≡ e
 ok-same is = cc is
 
-came-to : (o : Outcome) (n : Option ℤ) → status_of o ≡ status.NotSent n → o ≡ outcome.NotSent n
+came-to : (o : SendOutcome) (n : Option ℤ) → status_of o ≡ status.NotSent n → o ≡ outcome.NotSent n
 came-to outcome.Fine n is = absurd (cc is)
 came-to (outcome.NotSent m) n is = cc is
 came-to outcome.Refused n is = absurd (cc is)
 came-to outcome.Unrecorded n is = absurd (cc is)
 
 -- a session that ends by its quit, or by a line
-by-quit : (o : Outcome) (b : Bool) (r : Status) → EndsByQuit o b r → IsUnsentExplained (Ok r) o (b || is_refused_before o r)
+by-quit : (o : SendOutcome) (b : Bool) (r : Status) → EndsByQuit o b r → IsUnsentExplained (Ok r) o (b || is_refused_before o r)
 by-quit o true r is = record {
   only = λ n same. let e : status.Refused ≡ status.NotSent n = sym is ∙ ok-same same in absurd (cc e);
   always = λ n same. subst (λ (e : Status). EndsUnsent n true (Ok e)) (sym is) refl;
 }
 by-quit o false r (inl is) = record {
   only = λ n same. came-to o n (sym is ∙ ok-same same);
-  always = λ n same. subst (λ (e : Status). EndsUnsent n (is_refused_before o r) (Ok e)) (sym (subst (λ (o : Outcome). r ≡ status_of o) same is)) refl;
+  always = λ n same. subst (λ (e : Status). EndsUnsent n (is_refused_before o r) (Ok e)) (sym (subst (λ (o : SendOutcome). r ≡ status_of o) same is)) refl;
 }
 by-quit o false r (inr is) = record {
   only = λ n same. let e : status.BadRecord ≡ status.NotSent n = sym is ∙ ok-same same in absurd (cc e);
@@ -53,7 +53,7 @@ none-sent r b other = record {
   always = λ n same. absurd (cc same);
 }
 
-cut-sent : (cause : Stop) (o : Outcome) (b : Bool) → IsUnsentExplained (Err cause) o b
+cut-sent : (cause : Stop) (o : SendOutcome) (b : Bool) → IsUnsentExplained (Err cause) o b
 cut-sent cause o b = record { only = λ n same. absurd (cc same); always = λ n same. tt }
 
 -- the last round of a run

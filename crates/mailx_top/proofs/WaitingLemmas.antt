@@ -19,12 +19,12 @@ use Rattle.session_state.specs.declared.status.Status.{Status}
 use Rattle.session_state.specs.Waits.{Pending}
 use Rattle.session_state.specs.Pending.{taken, capped, open_before}
 use Rattle.read_commands.specs.Origins.{is_defining}
-use Rattle.session_state.specs.States.{IsSession, is_drafting, next_waiting, with_draft, cut_to, resumed, at_rest, rested}
+use Rattle.session_state.specs.States.{IsSession, is_drafting, next_waiting, with_draft, cut_to, resumed, at_rest, line_ended}
 use Rattle.draft_sending.specs.Sending.{ended_draft}
 use Rattle.compose_tilde.specs.declared.machine.Machine.{Machine}
 use Rattle.mailx_session.specs.Startup.{startup_play, StartupGoes, begun}
 use Rattle.mailx_session.specs.Startup as files
-use Rattle.session_state.proofs.RestLemmas.{rested-same}
+use Rattle.session_state.proofs.RestLemmas.{line_ended-same}
 use Rattle.mailx_session.specs.Rounds.{typed_play, waiting_play, WaitingGo, none, more, ended, LineGoes, typed, DraftEnds, FinishGo}
 use Rattle.mailx_session.specs.Rounds as rounds
 use Rattle.mailx_session.specs.Leaving.{leaving, InputEnds, then_leaves, ends_before, cut_before}
@@ -57,7 +57,7 @@ leads-more env x y front rest es (Err cause) is goes loop = again front rest is 
 
 -- between two lines of the input the prompt is said on a terminal, unless a draft is open or a definition is under way
 pub prompt_at_rest : (s : SessionState) → IsSession s → ((s.desk.terminal && not (is_drafting s)) && not (is_defining s.desk)) ≡ at_prompt s
-prompt_at_rest s is = ap (λ (t : SessionState). (s.desk.terminal && not (is_drafting s)) && not (is_defining t.desk)) (sym (rested-same s is))
+prompt_at_rest s is = ap (λ (t : SessionState). (s.desk.terminal && not (is_drafting s)) && not (is_defining t.desk)) (sym (line_ended-same s is))
 
 -- there no line waits that is carried out before the next of the input
 pub none_waits : (s : SessionState) → IsSession s → next_waiting s ≡ None
@@ -68,7 +68,7 @@ none_waits s is = go (is_drafting s) is.frames
     go false idle = ap (λ (fs : List Pending). taken (capped (length s.desk.conditions) fs)) (idle refl)
 
 -- nor does one where no draft is open, in a state at rest
-pub idle-waits : (s : SessionState) → is_drafting s ≡ false → rested s ≡ s → next_waiting s ≡ None
+pub idle-waits : (s : SessionState) → is_drafting s ≡ false → line_ended s ≡ s → next_waiting s ≡ None
 idle-waits s free same =
     let none_left : s.frames ≡ [] = sym (ap (λ (t : SessionState). t.frames) (sym (cond-false (is_drafting s) s (at_rest s) free) ∙ same)) in
     cond-false _ _ _ free ∙ ap (λ (fs : List Pending). taken (capped (length s.desk.conditions) fs)) none_left
@@ -78,27 +78,27 @@ prompted-alike : (terminal : Bool) (nested : Option ℕ) (desk : Desk) → promp
 prompted-alike true nested desk = refl
 prompted-alike false nested desk = refl
 
-next-alike : (b : Bool) (s : SessionState) (i : Input) → next_unless b (with_draft s None) i ≡ next_unless b (rested (with_draft s None)) i
+next-alike : (b : Bool) (s : SessionState) (i : Input) → next_unless b (with_draft s None) i ≡ next_unless b (line_ended (with_draft s None)) i
 next-alike true s i = refl
 next-alike false s i =
     let t = with_draft s None in
     ap (λ (p : Play (Unit {0})). bind p (λ u. Ask (Line i) (λ a. turn t a.1 a.0))) (prompted-alike (at_prompt t) (open_before t.frames) t.desk)
 
 -- where no line waits, the state is as good as one at rest
-rested-as : (env : Environment) (s : SessionState) (i : Input) (draft : Option Machine) → next_waiting (with_draft s draft) ≡ None
-    → round env (Reading (with_draft s draft) i) ≡ round env (Reading (rested (with_draft s draft)) i)
-rested-as env s i (Some m) none_left = refl
-rested-as env s i None none_left =
+line_ended-as : (env : Environment) (s : SessionState) (i : Input) (draft : Option Machine) → next_waiting (with_draft s draft) ≡ None
+    → round env (Reading (with_draft s draft) i) ≡ round env (Reading (line_ended (with_draft s draft)) i)
+line_ended-as env s i (Some m) none_left = refl
+line_ended-as env s i None none_left =
     let t = with_draft s None in
     ap (line_round t i) none_left ∙ next-alike (is_over t) s i
 
-rested-round : (env : Environment) (s : SessionState) (i : Input) → next_waiting s ≡ None → round env (Reading s i) ≡ round env (Reading (rested s) i)
-rested-round env s i none_left = rested-as env s i s.draft none_left
+line_ended-round : (env : Environment) (s : SessionState) (i : Input) → next_waiting s ≡ None → round env (Reading s i) ≡ round env (Reading (line_ended s) i)
+line_ended-round env s i none_left = line_ended-as env s i s.draft none_left
 
 -- the lines that wait are rounds
 pub waiting-leads : (env : Environment) (i : Input) {s : SessionState} {es : List Event} {out : Result (Next SessionState Status) Stop}
     → WaitingGo s es out → LeadsTo env (Reading s i) es (onward i out)
-waiting-leads env i {s = s} (none none_left) = λ rest out loop. same-round env (Reading s i) (Reading (rested s) i) (rested-round env s i none_left) loop
+waiting-leads env i {s = s} (none none_left) = λ rest out loop. same-round env (Reading s i) (Reading (line_ended s) i) (line_ended-round env s i none_left) loop
 waiting-leads env i {s = s} {es = es} (more {t = t} {out = out} line frames front rest is_next is goes later) =
     leads-more env (Reading s i) (Reading t i) front rest es (onward i out) is
     (subst (λ (p : Play (Next RunState Status)). Goes p front (Ok (Go (Reading t i)))) (sym (ap (line_round s i) is_next))
@@ -160,11 +160,11 @@ over-free false b is = absurd (cc is)
 pub over-ends : (env : Environment) (s : SessionState) (i : Input) (out : Result (Next RunState Status) Stop) → next_waiting s ≡ None → is_over s ≡ true → (es : List Event)
     → LeadsTo env (behind_input s i) es out → LeadsTo env (Reading s i) es out
 over-ends env s i out idle over es leads =
-    let shut : round env (Reading s i) ≡ Ret (Go (Leaving (rested s) i)) = ap (line_round s i) idle ∙ ap (λ (b : Bool). next_unless b s i) over in
+    let shut : round env (Reading s i) ≡ Ret (Go (Leaving (line_ended s) i)) = ap (line_round s i) idle ∙ ap (λ (b : Bool). next_unless b s i) over in
     let free : is_drafting s ≡ false = over-free (is_send s.desk.mode) (is_drafting s) over in
-    leads-more env (Reading s i) (Leaving (rested s) i) [] es es out refl
-    (subst (λ (p : Play (Next RunState Status)). Goes p [] (Ok (Go (Leaving (rested s) i)))) (sym shut) (refl, inl refl))
-    (subst (λ (x : RunState). LeadsTo env x es out) (cond-false (is_drafting s) (Finishing s i) (Leaving (rested s) i) free) leads)
+    leads-more env (Reading s i) (Leaving (line_ended s) i) [] es es out refl
+    (subst (λ (p : Play (Next RunState Status)). Goes p [] (Ok (Go (Leaving (line_ended s) i)))) (sym shut) (refl, inl refl))
+    (subst (λ (x : RunState). LeadsTo env x es out) (cond-false (is_drafting s) (Finishing s i) (Leaving (line_ended s) i) free) leads)
 
 -- the end of the input, and what follows it
 pub end-leads : (env : Environment) (s : SessionState) (i j : Input) (out : Result (Next RunState Status) Stop) → AsksNext s → (took es : List Event)
@@ -203,20 +203,20 @@ onward-files start names (Ok (Go s)) = Ok (Go (Preparing start s names))
 onward-files start names (Ok (Last e)) = Ok (Last e)
 onward-files start names (Err cause) = Err cause
 
-rested-file-as : (env : Environment) (start : Start) (s : SessionState) (names : List (List ℕ)) (draft : Option Machine) → next_waiting (with_draft s draft) ≡ None
-    → round env (Preparing start (with_draft s draft) names) ≡ round env (Preparing start (rested (with_draft s draft)) names)
-rested-file-as env start s names (Some m) none_left = refl
-rested-file-as env start s names None none_left = ap (file_round start (with_draft s None) names) none_left
+line_ended-file-as : (env : Environment) (start : Start) (s : SessionState) (names : List (List ℕ)) (draft : Option Machine) → next_waiting (with_draft s draft) ≡ None
+    → round env (Preparing start (with_draft s draft) names) ≡ round env (Preparing start (line_ended (with_draft s draft)) names)
+line_ended-file-as env start s names (Some m) none_left = refl
+line_ended-file-as env start s names None none_left = ap (file_round start (with_draft s None) names) none_left
 
-rested-file : (env : Environment) (start : Start) (s : SessionState) (names : List (List ℕ)) → next_waiting s ≡ None
-    → round env (Preparing start s names) ≡ round env (Preparing start (rested s) names)
-rested-file env start s names none_left = rested-file-as env start s names s.draft none_left
+line_ended-file : (env : Environment) (start : Start) (s : SessionState) (names : List (List ℕ)) → next_waiting s ≡ None
+    → round env (Preparing start s names) ≡ round env (Preparing start (line_ended s) names)
+line_ended-file env start s names none_left = line_ended-file-as env start s names s.draft none_left
 
 -- the lines of a start-up file are rounds
 waiting-files : (env : Environment) (start : Start) (names : List (List ℕ)) {s : SessionState} {es : List Event} {out : Result (Next SessionState Status) Stop} → WaitingGo s es out
     → LeadsTo env (Preparing start s names) es (onward-files start names out)
 waiting-files env start names {s = s} (none none_left) = λ rest out loop.
-    same-round env (Preparing start s names) (Preparing start (rested s) names) (rested-file env start s names none_left) loop
+    same-round env (Preparing start s names) (Preparing start (line_ended s) names) (line_ended-file env start s names none_left) loop
 waiting-files env start names {s = s} {es = es} (more {t = t} {out = out} line frames front rest is_next is goes later) =
     leads-more env (Preparing start s names) (Preparing start t names) front rest es (onward-files start names out) is
     (subst (λ (p : Play (Next RunState Status)). Goes p front (Ok (Go (Preparing start t names)))) (sym (ap (file_round start s names) is_next))
@@ -232,7 +232,7 @@ waiting-files env start names {s = s} rounds.short = cut (at-memory (round env (
 
 -- in a state at rest the next file is loaded
 next-round : (env : Environment) (start : Start) (s : SessionState) (names : List (List ℕ)) → IsSession s → round env (Preparing start s names) ≡ next_file start s names
-next-round env start s names is = ap (file_round start s names) (none_waits s is) ∙ ap (λ (t : SessionState). next_file start t names) (rested-same s is)
+next-round env start s names is = ap (file_round start s names) (none_waits s is) ∙ ap (λ (t : SessionState). next_file start t names) (line_ended-same s is)
 
 -- so is a start-up file
 pub file-goes : (env : Environment) (start : Start) (s : SessionState) (name : List ℕ) (names : List (List ℕ)) → IsSession s
@@ -286,18 +286,18 @@ onward-finishing j (Ok (Go s)) = Ok (Go (Finishing s j))
 onward-finishing j (Ok (Last e)) = Ok (Last e)
 onward-finishing j (Err cause) = Err cause
 
-rested-finishing-as : (env : Environment) (s : SessionState) (i : Input) (draft : Option Machine) → next_waiting (with_draft s draft) ≡ None
-    → round env (Finishing (with_draft s draft) i) ≡ round env (Finishing (rested (with_draft s draft)) i)
-rested-finishing-as env s i (Some m) none_left = refl
-rested-finishing-as env s i None none_left = ap (finishing_round (with_draft s None) i) none_left
+line_ended-finishing-as : (env : Environment) (s : SessionState) (i : Input) (draft : Option Machine) → next_waiting (with_draft s draft) ≡ None
+    → round env (Finishing (with_draft s draft) i) ≡ round env (Finishing (line_ended (with_draft s draft)) i)
+line_ended-finishing-as env s i (Some m) none_left = refl
+line_ended-finishing-as env s i None none_left = ap (finishing_round (with_draft s None) i) none_left
 
-rested-finishing : (env : Environment) (s : SessionState) (i : Input) → next_waiting s ≡ None → round env (Finishing s i) ≡ round env (Finishing (rested s) i)
-rested-finishing env s i none_left = rested-finishing-as env s i s.draft none_left
+line_ended-finishing : (env : Environment) (s : SessionState) (i : Input) → next_waiting s ≡ None → round env (Finishing s i) ≡ round env (Finishing (line_ended s) i)
+line_ended-finishing env s i none_left = line_ended-finishing-as env s i s.draft none_left
 
 -- the lines that wait are rounds there too
 waiting-finishing : (env : Environment) (i : Input) {s : SessionState} {es : List Event} {out : Result (Next SessionState Status) Stop} → WaitingGo s es out
     → LeadsTo env (Finishing s i) es (onward-finishing i out)
-waiting-finishing env i {s = s} (none none_left) = λ rest out loop. same-round env (Finishing s i) (Finishing (rested s) i) (rested-finishing env s i none_left) loop
+waiting-finishing env i {s = s} (none none_left) = λ rest out loop. same-round env (Finishing s i) (Finishing (line_ended s) i) (line_ended-finishing env s i none_left) loop
 waiting-finishing env i {s = s} {es = es} (more {t = t} {out = out} line frames front rest is_next is goes later) =
     leads-more env (Finishing s i) (Finishing t i) front rest es (onward-finishing i out) is
     (subst (λ (p : Play (Next RunState Status)). Goes p front (Ok (Go (Finishing t i)))) (sym (ap (finishing_round s i) is_next))
@@ -339,7 +339,7 @@ finish-leads env i {s = s} (rounds.lost drafting goes) = draft-leads env i s dra
 
 -- once no draft is open, and none waits, the folder is left
 abbrev onward-left : Input → Result (Next SessionState Status) Stop → Result (Next RunState Status) Stop
-onward-left j (Ok (Go s)) = Ok (Go (Leaving (rested s) j))
+onward-left j (Ok (Go s)) = Ok (Go (Leaving (line_ended s) j))
 onward-left j (Ok (Last e)) = Ok (Last e)
 onward-left j (Err cause) = Err cause
 
@@ -348,13 +348,13 @@ IsOver (Ok (Go s)) = (is_drafting s ≡ false) × (next_waiting s ≡ None)
 IsOver (Ok (Last e)) = Unit {0}
 IsOver (Err cause) = Unit {0}
 
-over-round : (env : Environment) (s : SessionState) (i : Input) → is_drafting s ≡ false → next_waiting s ≡ None → round env (Finishing s i) ≡ Ret (Go (Leaving (rested s) i))
+over-round : (env : Environment) (s : SessionState) (i : Input) → is_drafting s ≡ false → next_waiting s ≡ None → round env (Finishing s i) ≡ Ret (Go (Leaving (line_ended s) i))
 over-round env s i free none_left = ap (finishing_round s i) none_left ∙ cond-false _ _ _ free
 
 over-leads : (env : Environment) (x : RunState) (i : Input) (es : List Event) (out : Result (Next SessionState Status) Stop) → IsOver out → LeadsTo env x es (onward-finishing i out)
     → LeadsTo env x es (onward-left i out)
 over-leads env x i es (Ok (Go s)) over leads = λ rest out loop.
-    leads rest out (again [] rest refl (subst (λ (p : Play (Next RunState Status)). Goes p [] (Ok (Go (Leaving (rested s) i)))) (sym (over-round env s i over.0 over.1)) (refl, inl refl)) loop)
+    leads rest out (again [] rest refl (subst (λ (p : Play (Next RunState Status)). Goes p [] (Ok (Go (Leaving (line_ended s) i)))) (sym (over-round env s i over.0 over.1)) (refl, inl refl)) loop)
 over-leads env x i es (Ok (Last e)) over leads = leads
 over-leads env x i es (Err cause) over leads = leads
 
@@ -362,13 +362,13 @@ over-leads env x i es (Err cause) over leads = leads
 drafting-leads : (env : Environment) (s : SessionState) (j : Input) (es : List Event) (out : Result (Next SessionState Status) Stop) → is_drafting s ≡ true → IsOver out → FinishGo s es out
     → LeadsTo env (behind_input s j) es (onward-left j out)
 drafting-leads env s j es out drafting over goes =
-    subst (λ (x : RunState). LeadsTo env x es (onward-left j out)) (sym (cond-true (is_drafting s) (Finishing s j) (Leaving (rested s) j) drafting))
+    subst (λ (x : RunState). LeadsTo env x es (onward-left j out)) (sym (cond-true (is_drafting s) (Finishing s j) (Leaving (line_ended s) j) drafting))
     (over-leads env (Finishing s j) j es out over (finish-leads env j goes))
 
 behind-leads : (env : Environment) (j : Input) {s : SessionState} {es : List Event} {out : Result (Next SessionState Status) Stop} → IsOver out → FinishGo s es out
     → LeadsTo env (behind_input s j) es (onward-left j out)
 behind-leads env j {s = s} over (rounds.finished free) = λ rest out loop.
-    subst (λ (x : RunState). Loop (round env) x rest out) (sym (cond-false (is_drafting s) (Finishing s j) (Leaving (rested s) j) free)) loop
+    subst (λ (x : RunState). Loop (round env) x rest out) (sym (cond-false (is_drafting s) (Finishing s j) (Leaving (line_ended s) j) free)) loop
 behind-leads env j {s = s} {es = es} {out = out} over (rounds.onward front rest drafting is first later) =
     drafting-leads env s j es out drafting over (rounds.onward front rest drafting is first later)
 behind-leads env j {s = s} {es = es} {out = out} over (rounds.left drafting goes) = drafting-leads env s j es out drafting over (rounds.left drafting goes)
@@ -380,11 +380,11 @@ left-loop env s i es (Ok e) goes = last (goes-as (leaving s) (λ e. Ret (Last e)
 left-loop env s i es (Err cause) goes = cut (goes-cut (leaving s) (λ e. Ret (Last e)) cause es goes)
 
 -- the end of the input in a session is that of the run
-pub input-ends : (env : Environment) (j : Input) {s : SessionState} {es : List Event} {out : Result Status Stop} → rested s ≡ s → InputEnds s es out
+pub input-ends : (env : Environment) (j : Input) {s : SessionState} {es : List Event} {out : Result Status Stop} → line_ended s ≡ s → InputEnds s es out
     → Loop (round env) (behind_input s j) es out
 input-ends env j {s = s} {out = out} same (then_leaves {t = t} front rest is finishes goes) =
     let free : is_drafting t ≡ false = finish-over finishes refl in
-    let rests : rested t ≡ t = finish-rests same finishes in
+    let rests : line_ended t ≡ t = finish-rests same finishes in
     subst (λ (l : List Event). Loop (round env) (behind_input s j) l out) (sym is)
     (behind-leads env j (free, idle-waits t free rests) finishes rest out
     (subst (λ (u : SessionState). Loop (round env) (Leaving u j) rest out) (sym rests) (left-loop env t j rest out goes)))

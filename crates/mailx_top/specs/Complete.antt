@@ -10,7 +10,7 @@ use Rattle.session_play.specs.Causes.{bytes_in, events_at, some_load_saw}
 use Rattle.session_play.specs.Input.{input_limit}
 use Rattle.session_play.specs.Play.{Next, Play, Loop}
 use Rattle.session_state.specs.Saving.{is_refused}
-use Rattle.session_state.specs.declared.outcome.Outcome.TheVariants as outcome
+use Rattle.session_state.specs.declared.outcome.SendOutcome.TheVariants as outcome
 use Rattle.session_state.specs.declared.status.Status.{Status}
 use Rattle.session_state.specs.declared.status.Status.TheVariants as status
 use Rattle.mailx_top.specs.declared.environment.Environment.{Environment}

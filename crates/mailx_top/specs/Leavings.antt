@@ -13,8 +13,8 @@ use Rattle.session_play.specs.declared.stop.Stop.{Stop}
 use Rattle.session_play.specs.Play.{Act, Answer, Changes, Play, Ret, Ask, Goes, Next, Last, Loop, again, last, cut}
 use Rattle.folder_commands.specs.Leaving.{changes_of}
 use Rattle.session_state.specs.declared.state.SessionState.{SessionState}
-use Rattle.session_state.specs.declared.outcome.Outcome.{Outcome}
-use Rattle.session_state.specs.declared.outcome.Outcome.TheVariants as outcome
+use Rattle.session_state.specs.declared.outcome.SendOutcome.{SendOutcome}
+use Rattle.session_state.specs.declared.outcome.SendOutcome.TheVariants as outcome
 use Rattle.session_state.specs.declared.status.Status.{Status}
 use Rattle.session_state.specs.declared.status.Status.TheVariants as status
 use Rattle.session_state.specs.Placing.{placed_changes}
@@ -41,7 +41,7 @@ abbrev pub is_quit_refused : SessionState → Option Attempt → Bool
 is_quit_refused s answer = option_map_or (refuses (placed_changes s.here (left_changes s))) answer false
 
 -- the record or the dead letter of a draft was refused, or the word for a record stood for no file
-abbrev pub is_draft_refused : Outcome → Bool
+abbrev pub is_draft_refused : SendOutcome → Bool
 is_draft_refused outcome.Fine = false
 is_draft_refused (outcome.NotSent n) = false
 is_draft_refused outcome.Refused = true
@@ -53,7 +53,7 @@ is_for_record status.BadRecord = true
 is_for_record e = false
 
 -- a draft was refused so before the round that ends the run, which doesn't end it for a record that can't be read
-abbrev pub is_refused_before : Outcome → Status → Bool
+abbrev pub is_refused_before : SendOutcome → Status → Bool
 is_refused_before o e = is_draft_refused o && not (is_for_record e)
 
 -- the round that ends the run refuses its quit, if it leaves the folder, or a draft was refused before it
@@ -73,7 +73,7 @@ refused_at_end {round = round} (last {x = x} {es = es} {r = r} goes) = is_refuse
 refused_at_end (cut goes) = false
 
 -- what became of drafts before a round, if a session goes on
-abbrev pub outcome_before : RunState → Outcome
+abbrev pub outcome_before : RunState → SendOutcome
 outcome_before (Recovering start) = outcome.Fine
 outcome_before (Preparing start s names) = s.outcome
 outcome_before (Opening start s) = outcome.Fine
@@ -82,7 +82,7 @@ outcome_before (Finishing s i) = s.outcome
 outcome_before (Leaving s i) = s.outcome
 
 -- and before the last round of a run
-abbrev pub last_outcome : {round : RunState → Play (Next RunState Status)} {x : RunState} {es : List Event} {out : Result Status Stop} → Loop round x es out → Outcome
+abbrev pub last_outcome : {round : RunState → Play (Next RunState Status)} {x : RunState} {es : List Event} {out : Result Status Stop} → Loop round x es out → SendOutcome
 last_outcome (again front rest is goes more) = last_outcome more
 last_outcome (last {x = x} goes) = outcome_before x
 last_outcome (cut {x = x} goes) = outcome_before x
@@ -97,6 +97,6 @@ EndsUnsent n refused (Ok e) = ⊥
 EndsUnsent n refused (Err cause) = Unit {0}
 
 -- A run ends so exactly when a draft wasn't sent before its last round, and none was refused.
-pub record IsUnsentExplained (out : Result Status Stop) (before : Outcome) (refused : Bool) : Type 0 where
+pub record IsUnsentExplained (out : Result Status Stop) (before : SendOutcome) (refused : Bool) : Type 0 where
   pub only : (n : Option ℤ) → out ≡ Ok (status.NotSent n) → before ≡ outcome.NotSent n
   pub always : (n : Option ℤ) → before ≡ outcome.NotSent n → EndsUnsent n refused out

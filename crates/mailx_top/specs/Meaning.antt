@@ -32,7 +32,7 @@ use Rattle.session_asks.specs.Openings.{first_state, with_opened, greeting}
 use Rattle.session_state.specs.declared.frames.WaitingLine.{WaitingLine}
 use Rattle.session_state.specs.Waits.{Pending}
 use Rattle.session_state.specs.Placing.{placed}
-use Rattle.session_state.specs.States.{is_drafting, next_waiting, resumed, rested}
+use Rattle.session_state.specs.States.{is_drafting, next_waiting, resumed, line_ended}
 use Rattle.draft_sending.specs.Sending.{ended_draft}
 use Rattle.session_asks.specs.Beginning.{composing}
 use Rattle.mailx_session.specs.Rounds.{typed_play, waiting_play}
@@ -66,7 +66,7 @@ with_input j (Last e) = Ret (Last e)
 
 -- after the last line of the input a draft that is open ends; if none is, the folder is left, in a state at rest
 abbrev pub behind_input : SessionState → Input → RunState
-behind_input s j = if is_drafting s then Finishing s j else Leaving (rested s) j
+behind_input s j = if is_drafting s then Finishing s j else Leaving (line_ended s) j
 
 -- what a line of the input does; without one the input is over
 abbrev pub turn : SessionState → Input → Option (List ℕ) → Play (Next RunState Status)
@@ -76,7 +76,7 @@ turn s j (Some line) = bind (typed_play s line) (with_input j)
 -- the prompt is printed before a line is asked for: on a terminal, unless the line is one of a draft that is open, or of a
 -- definition that is under way
 abbrev pub at_prompt : SessionState → Bool
-at_prompt s = (s.desk.terminal && not (is_drafting s)) && not (is_defining (rested s).desk)
+at_prompt s = (s.desk.terminal && not (is_drafting s)) && not (is_defining (line_ended s).desk)
 
 -- what is printed before a line is asked for: the value of `prompt`, if the prompt is printed
 abbrev pub prompted : Bool → Desk → Play (Unit {0})
@@ -93,7 +93,7 @@ is_over s = is_send s.desk.mode && not (is_drafting s)
 
 -- if the run is over the folder is left, and else the next line asked for
 abbrev pub next_unless : Bool → SessionState → Input → Play (Next RunState Status)
-next_unless true s i = Ret (Go (Leaving (rested s) i))
+next_unless true s i = Ret (Go (Leaving (line_ended s) i))
 next_unless false s i = next_turn s i
 
 -- no line waits, and the run isn't over, so that the input is asked for a line
@@ -113,7 +113,7 @@ with_finishing i (Last e) = Ret (Last e)
 -- at the end of the input a line that waits is taken first; if none does, a draft that is open ends; else the folder
 -- is left
 abbrev pub finishing_round : SessionState → Input → Option (WaitingLine × List Pending) → Play (Next RunState Status)
-finishing_round s i None = if is_drafting s then bind (ended_draft s) (with_finishing i) else Ret (Go (Leaving (rested s) i))
+finishing_round s i None = if is_drafting s then bind (ended_draft s) (with_finishing i) else Ret (Go (Leaving (line_ended s) i))
 finishing_round s i (Some (line, frames)) = bind (waiting_play (resumed s frames) line) (with_finishing i)
 
 -- the folder is left, and the run ends
@@ -255,7 +255,7 @@ next_file start s (name ∷ names) = bind (startup_play s name) (with_files star
 
 -- a line that waits is taken first; if none does, the next start-up file is loaded, in a state at rest
 abbrev pub file_round : Start → SessionState → List (List ℕ) → Option (WaitingLine × List Pending) → Play (Next RunState Status)
-file_round start s names None = next_file start (rested s) names
+file_round start s names None = next_file start (line_ended s) names
 file_round start s names (Some (line, frames)) = bind (waiting_play (resumed s frames) line) (with_files start names)
 
 -- before the start-up files, in the first state of a run

@@ -41,7 +41,7 @@ use Rattle.session_play.specs.declared.stop.Stop.{Stop}
 use Rattle.session_play.specs.declared.stop.Stop.TheVariants as stop
 use Rattle.session_play.specs.Acts.{AllEnds}
 use Rattle.session_play.specs.declared.changing.Attempt.TheVariants.{Made, Misnamed}
-use Rattle.session_play.specs.Committing.{Commit, answer_as, first_misnamed}
+use Rattle.session_play.specs.Committing.{Commit, answer_as, first_target_fault}
 use Rattle.session_play.proofs.NamingLemmas.{named-files}
 use Rattle.session_play.specs.Play.{Act, Answer, Changes, Play, Ret, Ask, Did, Partly, Next, Go, Last, Line, Say, Read, Try, Recover, Child, Editor, Now, Know}
 use Rattle.play_safety.specs.Passes.{decided_in, accepted_by, pending_by, Commits, Passes, PassesAll, again, last, cut}
@@ -171,7 +171,7 @@ module _ (actor : List ℕ) (token : ℕ) (fits : token < 2 ^ 64) where
   may-run d files owners es s honest lawful = record { fits = fits; fresh = s.fresh; sound = s.sound; honest = honest; lawful = lawful }
 
   -- what an answered or a cut commit's events carry out
-  changes-fit : (c : Commit) (d : Disk) (es : List Event) (answer : Result Unit CommitError) → first_misnamed actor c.changes ≡ None
+  changes-fit : (c : Commit) (d : Disk) (es : List Event) (answer : Result Unit CommitError) → first_target_fault actor c.changes ≡ None
       → MayRun actor token d es → decisions any d 0 es ≡ length (accepted_by (Changes c) d es)
       → IsCommit actor token c.changes c.base (own es) answer → Fits (Changes c) d es
   changes-fit c d es answer well may count h a b e at y =

@@ -22,7 +22,7 @@ use Rattle.folder_commands.specs.Saving.{receipt}
 use Rattle.session_state.specs.declared.state.SessionState.{SessionState}
 use Rattle.session_state.specs.declared.status.Status.{Status}
 use Rattle.session_state.specs.declared.status.Status.TheVariants.{BadRecord}
-use Rattle.session_state.specs.Placing.{placed_changes, said_as}
+use Rattle.session_state.specs.Placing.{placed_changes, typed_name}
 use Rattle.session_state.specs.Saving.{after_commit, commit_of, is_changed, saved}
 use Rattle.session_state.specs.States.{with_desk}
 use Rattle.session_asks.specs.Asks.{asked}

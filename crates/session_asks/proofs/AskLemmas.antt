@@ -6,8 +6,8 @@ use Rattle.std.specs.declared.result.Result.{Result}
 use Rattle.std.specs.declared.result.Result.TheVariants.{Ok, Err}
 use Rattle.session_state.specs.declared.error.RunError.{RunError}
 use Rattle.session_state.specs.declared.error.RunError.TheVariants as error
-use Rattle.session_state.specs.declared.answers.Asked.{Asked}
-use Rattle.session_state.specs.declared.answers.Asked.TheVariants as answered
+use Rattle.session_state.specs.declared.answers.AskResult.{AskResult}
+use Rattle.session_state.specs.declared.answers.AskResult.TheVariants as answered
 use Rattle.host_port.specs.declared.event.Event.{Event}
 use Rattle.session_play.specs.declared.stop.Stop.{Stop}
 use Rattle.session_play.specs.Play.{Play, Ret, Ask, Say, Goes}
@@ -41,14 +41,14 @@ pub after-run : (s : SessionState) (answer : Option ChildAnswer) (child : ChildA
 after-run s answer child is = ap (after_run s) is
 
 -- a cause in a later call is one in the whole stretch
-pub caused-later : (a b c : Counts) (r : Result Asked RunError) → NeverFall a b → LineCaused b c r → LineCaused a c r
+pub caused-later : (a b c : Counts) (r : Result AskResult RunError) → NeverFall a b → LineCaused b c r → LineCaused a c r
 caused-later a b c (Ok asked) fall t = tt
 caused-later a b c (Err error.Output) fall rose = rose-back a.outs b.outs c.outs fall.outs rose
 caused-later a b c (Err error.Disk) fall rose = rose-back a.disks b.disks c.disks fall.disks rose
 caused-later a b c (Err error.Memory) fall t = tt
 
 -- all was done, and the command isn't over
-pub done-on : (r : Result Asked RunError) → all_done r ≡ true → r ≡ Ok answered.On
+pub done-on : (r : Result AskResult RunError) → all_done r ≡ true → r ≡ Ok answered.On
 done-on (Ok answered.On) done = refl
 done-on (Ok answered.Over) done = absurd (cc done)
 done-on (Ok (answered.Refused line)) done = absurd (cc done)
@@ -74,7 +74,7 @@ left-all first s l left is es leads =
     subst (λ (all : List Event). Goes (in_order asked first l) all (Ok (On s))) (append-nil es) (here [] (Ok (On s)) (refl, inl refl))
 
 -- what one of the asks leaves is what all of them leave, unless all was done
-pub left-off : (first s t : SessionState) (r : Result Asked RunError) (l left rest : List asked_of.Ask) (a : asked_of.Ask) → left ≡ a ∷ rest → all_done r ≡ false
+pub left-off : (first s t : SessionState) (r : Result AskResult RunError) (l left rest : List asked_of.Ask) (a : asked_of.Ask) → left ≡ a ∷ rest → all_done r ≡ false
     → (es fs : List Event) → LeftOf first l s left es → Goes (asked s a) fs (in_play (after_asks t) r) → Goes (in_order asked first l) (es ++ fs) (in_play (after_asks t) r)
 left-off first s t r l left rest a is off es fs leads did = here fs (in_play (after_asks t) r) (go r off did)
   where
@@ -84,7 +84,7 @@ left-off first s t r l left rest a is off es fs leads did = here fs (in_play (af
     here : LeftOf first l s (a ∷ rest) es
     here = subst (λ (asks : List asked_of.Ask). LeftOf first l s asks es) is leads
 
-    go : (r : Result Asked RunError) → all_done r ≡ false → Goes (asked s a) fs (in_play (after_asks t) r) → Goes (in_order asked s (a ∷ rest)) fs (in_play (after_asks t) r)
+    go : (r : Result AskResult RunError) → all_done r ≡ false → Goes (asked s a) fs (in_play (after_asks t) r) → Goes (in_order asked s (a ∷ rest)) fs (in_play (after_asks t) r)
     go (Ok answered.On) off did = absurd (cc off)
     go (Ok answered.Over) off did = goes-as (asked s a) follows (Over t) (Over t) fs refl did
     go (Ok (answered.Refused line)) off did = goes-as (asked s a) follows (Refused line) (Refused line) fs refl did

@@ -34,8 +34,8 @@ use Rattle.command_desk.proofs.EffectLemmas.{desk-after}
 use Rattle.folder_commands.specs.Editing.{edited_change, edited_texts}
 use Rattle.folder_commands.specs.Saving.{receipt}
 use Rattle.folder_commands.proofs.EditingLemmas.{All-set}
-use Rattle.session_state.specs.declared.answers.Asked.{Asked}
-use Rattle.session_state.specs.declared.answers.Asked.TheVariants as answered
+use Rattle.session_state.specs.declared.answers.AskResult.{AskResult}
+use Rattle.session_state.specs.declared.answers.AskResult.TheVariants as answered
 use Rattle.session_state.specs.declared.error.RunError.{RunError}
 use Rattle.session_state.specs.declared.state.SessionState.{SessionState}
 use Rattle.session_state.specs.declared.status.Status.{Status}
@@ -146,7 +146,7 @@ know-edited s n text changes e reply out is said es went =
     inl (made ∷ [], [], es, refl, (refl, (is.row.is_row, tt)), inl (is.view, [], es, refl, (refl, viewed), subst D desk (subst R said (subst C is.change went))))
 
 -- where the change wasn't committed, what that left stays
-pub told-off : (s : SessionState) (changes : List Change) (reply : List ℕ) (desk : Desk) (r : Result Asked RunError) → all_done r ≡ false
+pub told-off : (s : SessionState) (changes : List Change) (reply : List ℕ) (desk : Desk) (r : Result AskResult RunError) → all_done r ≡ false
     → (es : List Event) → Goes (saved s changes) es (in_play (after_asks s) r) → Goes (bind (saved s changes) (told reply desk)) es (in_play (after_asks s) r)
 told-off s changes reply desk (Ok answered.On) off es went = absurd (cc off)
 told-off s changes reply desk (Ok answered.Over) off es went = goes-as (saved s changes) (told reply desk) (Over s) (Over s) es refl went
@@ -155,14 +155,14 @@ told-off s changes reply desk (Ok (answered.Ended e)) off es went = goes-as (sav
 told-off s changes reply desk (Err e) off es went = goes-cut (saved s changes) (told reply desk) (stop_of e) es went
 
 -- what refuses what an editor left
-pub refused-edited : (s t : SessionState) (n : ℕ) (f : OrFault (List ℕ)) (r : Refusal) (result : Result Asked RunError) → Means {A = List ℕ} (Err r) f → IsRefusedSo r result
+pub refused-edited : (s t : SessionState) (n : ℕ) (f : OrFault (List ℕ)) (r : Refusal) (result : Result AskResult RunError) → Means {A = List ℕ} (Err r) f → IsRefusedSo r result
     → Goes (edited s n f) [] (in_play (after_asks t) result)
 refused-edited s t n f (refusal.Fault line) result is so =
     let G : OrFault (List ℕ) → Type 0 = λ h. Goes (edited s n h) [] (in_play (after_asks t) result) in
-    let K : Result Asked RunError → Type 0 = λ h. Goes (edited s n (Err line)) [] (in_play (after_asks t) h) in
+    let K : Result AskResult RunError → Type 0 = λ h. Goes (edited s n (Err line)) [] (in_play (after_asks t) h) in
     subst G (sym is) (subst K (sym so) (refl, inl refl))
 refused-edited s t n f refusal.Memory result is so =
-    let K : Result Asked RunError → Type 0 = λ h. Goes (edited s n f) [] (in_play (after_asks t) h) in
+    let K : Result AskResult RunError → Type 0 = λ h. Goes (edited s n f) [] (in_play (after_asks t) h) in
     subst K (sym so) (at-memory (edited s n f))
 
 -- the text was left as it was, or not

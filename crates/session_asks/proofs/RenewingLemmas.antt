@@ -30,7 +30,7 @@ use Rattle.command_desk.specs.Answers.{OrFault, IsRefused}
 use Rattle.command_desk.specs.Faults.{bad_name}
 use Rattle.command_desk.specs.declared.steps.Refusal.{Refusal}
 use Rattle.command_desk.specs.declared.steps.Refusal.TheVariants as refusal
-use Rattle.session_state.specs.declared.answers.Asked.{Asked}
+use Rattle.session_state.specs.declared.answers.AskResult.{AskResult}
 use Rattle.session_state.specs.declared.error.RunError.{RunError}
 use Rattle.session_state.specs.declared.state.SessionState.{SessionState}
 use Rattle.session_state.specs.declared.status.Status.{Status}
@@ -107,23 +107,23 @@ know-more s new f out t es went =
     subst G (sym t.grown) (inl (t.shows.more, [], es, refl, (refl, t.shows.are), inl (t.shows.view, [], es, refl, (refl, t.shows.viewed), subst H t.shows.is went)))
 
 -- what refuses it
-pub refused-taking : (s t : SessionState) (h : OrFault (List ℕ)) (r : Refusal) (result : Result Asked RunError) → IsRefused r h → IsRefusedSo r result
+pub refused-taking : (s t : SessionState) (h : OrFault (List ℕ)) (r : Refusal) (result : Result AskResult RunError) → IsRefused r h → IsRefusedSo r result
     → Goes (taking s h) [] (in_play (after_asks t) result)
 refused-taking s t h (refusal.Fault line) result is so =
     let G : OrFault (List ℕ) → Type 0 = λ h. Goes (taking s h) [] (in_play (after_asks t) result) in
-    let K : Result Asked RunError → Type 0 = λ r. Goes (taking s (Err line)) [] (in_play (after_asks t) r) in
+    let K : Result AskResult RunError → Type 0 = λ r. Goes (taking s (Err line)) [] (in_play (after_asks t) r) in
     subst G (sym is) (subst K (sym so) (refl, inl refl))
 refused-taking s t h refusal.Memory result is so =
-    let K : Result Asked RunError → Type 0 = λ r. Goes (taking s h) [] (in_play (after_asks t) r) in
+    let K : Result AskResult RunError → Type 0 = λ r. Goes (taking s h) [] (in_play (after_asks t) r) in
     subst K (sym so) (at-memory (taking s h))
 
 -- leaves the desk
-pub refused-stays : (s : SessionState) (new : Desk) (r : Refusal) (result : Result Asked RunError) → StaysIfRefused r s.desk new → IsRefusedSo r result → KeepsDesk s (with_desk s new) result
+pub refused-stays : (s : SessionState) (new : Desk) (r : Refusal) (result : Result AskResult RunError) → StaysIfRefused r s.desk new → IsRefusedSo r result → KeepsDesk s (with_desk s new) result
 refused-stays s new (refusal.Fault line) result stays so =
-    let K : Result Asked RunError → Type 0 = λ r. KeepsDesk s (with_desk s new) r in
+    let K : Result AskResult RunError → Type 0 = λ r. KeepsDesk s (with_desk s new) r in
     subst K (sym so) (ap (λ (d : Desk). with_desk s d) stays)
 refused-stays s new refusal.Memory result stays so =
-    let K : Result Asked RunError → Type 0 = λ r. KeepsDesk s (with_desk s new) r in
+    let K : Result AskResult RunError → Type 0 = λ r. KeepsDesk s (with_desk s new) r in
     subst K (sym so) tt
 
 -- a folder whose name is no fault has a file's name

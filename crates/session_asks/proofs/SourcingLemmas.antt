@@ -28,8 +28,8 @@ use Rattle.command_desk.specs.Effects.{renames}
 use Rattle.desk_commands.specs.Defining.{or_macro_fault}
 use Rattle.read_commands.specs.Origins.{commanded, is_defining, is_startup_ask}
 use Rattle.read_commands.specs.declared.origin.Origin.{Origin}
-use Rattle.session_state.specs.declared.answers.Asked.{Asked}
-use Rattle.session_state.specs.declared.answers.Asked.TheVariants as answered
+use Rattle.session_state.specs.declared.answers.AskResult.{AskResult}
+use Rattle.session_state.specs.declared.answers.AskResult.TheVariants as answered
 use Rattle.session_state.specs.declared.error.RunError.{RunError}
 use Rattle.session_state.specs.declared.error.RunError.TheVariants as error
 use Rattle.session_state.specs.declared.kinds.FrameKind.{FrameKind}
@@ -96,7 +96,7 @@ pub only-desk : (s t : SessionState) → OnlyFrames s t → t.desk ≡ s.desk
 only-desk s t only = ap (λ (u : SessionState). u.desk) only
 
 -- the desk stays where the state does
-pub same-desk : (s t : SessionState) (r : Result Asked RunError) → t ≡ s → KeepsDesk s t r
+pub same-desk : (s t : SessionState) (r : Result AskResult RunError) → t ≡ s → KeepsDesk s t r
 same-desk s t (Ok answered.On) same = only-same s t same
 same-desk s t (Ok answered.Over) same = tt
 same-desk s t (Ok (answered.Refused line)) same = only-same s t same
@@ -104,7 +104,7 @@ same-desk s t (Ok (answered.Ended e)) same = only-same s t same
 same-desk s t (Err e) same = tt
 
 -- or its own desk
-pub keeps-desk : (s t : SessionState) (r : Result Asked RunError) → OnlyFrames s t → KeepsDesk s t r
+pub keeps-desk : (s t : SessionState) (r : Result AskResult RunError) → OnlyFrames s t → KeepsDesk s t r
 keeps-desk s t (Ok answered.On) same = same
 keeps-desk s t (Ok answered.Over) same = tt
 keeps-desk s t (Ok (answered.Refused line)) same = same
@@ -112,7 +112,7 @@ keeps-desk s t (Ok (answered.Ended e)) same = same
 keeps-desk s t (Err e) same = tt
 
 -- what a later ask keeps is kept in the whole stretch
-pub keeps-then : (a b c : SessionState) (r : Result Asked RunError) → OnlyFrames a b → KeepsDesk b c r → KeepsDesk a c r
+pub keeps-then : (a b c : SessionState) (r : Result AskResult RunError) → OnlyFrames a b → KeepsDesk b c r → KeepsDesk a c r
 keeps-then a b c (Ok answered.On) x y = only-then a b c x y
 keeps-then a b c (Ok answered.Over) x y = tt
 keeps-then a b c (Ok (answered.Refused line)) x y = only-then a b c x y
@@ -124,7 +124,7 @@ pub kept-valid : (s t : SessionState) → IsState s → OnlyBrings s t → OnlyF
 kept-valid s t is b same = subst IsState (sym same) (record { desk = is.desk; actor = is.actor })
 
 -- the desk stays in one ask after another, the first of which left it
-pub desk-then : (s t u : SessionState) (r : Result Asked RunError) → OnlyFrames s t → KeepsDesk t u r → KeepsDesk s u r
+pub desk-then : (s t u : SessionState) (r : Result AskResult RunError) → OnlyFrames s t → KeepsDesk t u r → KeepsDesk s u r
 desk-then s t u (Ok answered.On) same keeps = only-then s t u same keeps
 desk-then s t u (Ok answered.Over) same keeps = tt
 desk-then s t u (Ok (answered.Refused line)) same keeps = only-then s t u same keeps
@@ -192,21 +192,21 @@ startup-parts a asks all = go (is_startup_ask a) all
     go false h = absurd (cc h)
 
 -- what answers leave where not all was done
-pub after-same : (s t : SessionState) (r : Result Asked RunError) → is_on r ≡ false → in_play (after_asks s) r ≡ in_play (after_asks t) r
+pub after-same : (s t : SessionState) (r : Result AskResult RunError) → is_on r ≡ false → in_play (after_asks s) r ≡ in_play (after_asks t) r
 after-same s t (Ok answered.On) off = absurd (cc off)
 after-same s t (Ok answered.Over) off = absurd (cc off)
 after-same s t (Ok (answered.Refused line)) off = refl
 after-same s t (Ok (answered.Ended e)) off = refl
 after-same s t (Err e) off = refl
 
-pub stays-same : (s t : SessionState) (r : Result Asked RunError) → t ≡ s → StaysUnlessOn s t r
+pub stays-same : (s t : SessionState) (r : Result AskResult RunError) → t ≡ s → StaysUnlessOn s t r
 stays-same s t (Ok answered.On) same = tt
 stays-same s t (Ok answered.Over) same = tt
 stays-same s t (Ok (answered.Refused line)) same = same
 stays-same s t (Ok (answered.Ended e)) same = same
 stays-same s t (Err e) same = tt
 
-pub stays-on : (s t : SessionState) (r : Result Asked RunError) → is_on r ≡ true → StaysUnlessOn s t r
+pub stays-on : (s t : SessionState) (r : Result AskResult RunError) → is_on r ≡ true → StaysUnlessOn s t r
 stays-on s t (Ok answered.On) on = tt
 stays-on s t (Ok answered.Over) on = tt
 stays-on s t (Ok (answered.Refused line)) on = absurd (cc on)
@@ -264,7 +264,7 @@ defining_brings_none origin desk line defining =
     ap brings_lines (cond-true _ _ _ defining) ∙ definition-brings (bytes_eq line (codes "}")) (line_refusal desk.macros line) line
 
 -- where what an ask leaves is known without an event
-pub left-goes : (t : SessionState) (left : After SessionState Status) (r : Result Asked RunError) → IfOk r (λ asked. after_asks t asked ≡ left) → IfErr r (λ e. e ≡ error.Memory)
+pub left-goes : (t : SessionState) (left : After SessionState Status) (r : Result AskResult RunError) → IfOk r (λ asked. after_asks t asked ≡ left) → IfErr r (λ e. e ≡ error.Memory)
     → Goes (Ret left) [] (in_play (after_asks t) r)
 left-goes t left (Ok asked) means memory = (refl, inl (ap (λ (a : After SessionState Status). Ok a) means))
 left-goes t left (Err e) means memory = at-memory-as (Ret left) e memory
@@ -272,14 +272,14 @@ left-goes t left (Err e) means memory = at-memory-as (Ret left) e memory
     at-memory-as : (p : Play (After SessionState Status)) (e : RunError) → e ≡ error.Memory → Goes p [] (Err (stop_of e))
     at-memory-as p e same = subst (λ (x : RunError). Goes p [] (Err (stop_of x))) (sym same) (at-memory p)
 
-pub called-caused : (a b : Counts) (r : Result Asked RunError) → IfErr r (λ e. e ≡ error.Memory) → LineCaused a b r
+pub called-caused : (a b : Counts) (r : Result AskResult RunError) → IfErr r (λ e. e ≡ error.Memory) → LineCaused a b r
 called-caused a b (Ok asked) memory = tt
 called-caused a b (Err error.Memory) memory = tt
 called-caused a b (Err error.Output) memory = absurd (cc memory)
 called-caused a b (Err error.Disk) memory = absurd (cc memory)
 
 -- an ask that doesn't end the run ends it as a line may
-pub ends-by-ask : (r : Result Asked RunError) → IfOk r EndsNoRun → IfOk r EndsByAsk
+pub ends-by-ask : (r : Result AskResult RunError) → IfOk r EndsNoRun → IfOk r EndsByAsk
 ends-by-ask (Ok answered.On) h = tt
 ends-by-ask (Ok answered.Over) h = tt
 ends-by-ask (Ok (answered.Refused line)) h = tt
@@ -287,6 +287,6 @@ ends-by-ask (Ok (answered.Ended e)) h = absurd h
 ends-by-ask (Err e) h = tt
 
 -- and where memory alone cuts it off no fault of the disk does
-pub asks-go-on : (r : Result Asked RunError) → IfOk r EndsNoRun → IfErr r (λ e. e ≡ error.Memory) → AsksGoOn r
+pub asks-go-on : (r : Result AskResult RunError) → IfOk r EndsNoRun → IfErr r (λ e. e ≡ error.Memory) → AsksGoOn r
 asks-go-on (Ok a) h memory = h
 asks-go-on (Err e) h memory = subst IsNoDiskFault (sym memory) tt

@@ -17,8 +17,8 @@ use Rattle.command_desk.specs.Faults.{bad_name}
 use Rattle.command_desk.specs.declared.steps.Refusal.{Refusal}
 use Rattle.command_desk.specs.declared.steps.Refusal.TheVariants as refusal
 use Rattle.session_play.proofs.PlayLemmas.{at-memory, goes-as, goes-cut}
-use Rattle.session_state.specs.declared.answers.Asked.{Asked}
-use Rattle.session_state.specs.declared.answers.Asked.TheVariants as answered
+use Rattle.session_state.specs.declared.answers.AskResult.{AskResult}
+use Rattle.session_state.specs.declared.answers.AskResult.TheVariants as answered
 use Rattle.session_state.specs.declared.error.RunError.{RunError}
 use Rattle.session_state.specs.Answers.{after_asks, in_play, stop_of}
 use Rattle.session_asks.specs.Asks.{all_done, IsRefusedSo}
@@ -40,7 +40,7 @@ open-fault-none s name changes plain = go (is_short_name (placed s.here name)) (
     go false fault h = absurd (cc h)
 
 -- where not all of the changes were committed, what that left stays
-pub announced-off : (s : SessionState) (changes : List Change) (reply : List ℕ) (desk : Desk) (r : Result Asked RunError) → all_done r ≡ false
+pub announced-off : (s : SessionState) (changes : List Change) (reply : List ℕ) (desk : Desk) (r : Result AskResult RunError) → all_done r ≡ false
     → (es : List Event) → Goes (saved s changes) es (in_play (after_asks s) r) → Goes (switching s changes reply desk) es (in_play (after_asks s) r)
 announced-off s changes reply desk (Ok answered.On) off es went = absurd (cc off)
 announced-off s changes reply desk (Ok answered.Over) off es went = goes-as (saved s changes) (announced reply desk) (Over s) (Over s) es refl went
@@ -56,14 +56,14 @@ laid-switched s name bytes o previous is same =
     ∙ ap (λ (p : List ℕ). record (opened s name bytes is.rows) { previous = p; gathered = [] }) same
 
 -- a load that refuses the command
-pub refused-switched : (s : SessionState) (name : List ℕ) (changes : List Change) (reply : List ℕ) (f : OrFault (List ℕ)) (r : Refusal) (result : Result Asked RunError) (t : SessionState)
+pub refused-switched : (s : SessionState) (name : List ℕ) (changes : List Change) (reply : List ℕ) (f : OrFault (List ℕ)) (r : Refusal) (result : Result AskResult RunError) (t : SessionState)
     → Means {A = List ℕ} (Err r) f → IsRefusedSo r result → Goes (switched_to s name changes reply f) [] (in_play (after_asks t) result)
 refused-switched s name changes reply f (refusal.Fault line) result t is so =
     let G : OrFault (List ℕ) → Type 0 = λ h. Goes (switched_to s name changes reply h) [] (in_play (after_asks t) result) in
-    let K : Result Asked RunError → Type 0 = λ h. Goes (switched_to s name changes reply (Err line)) [] (in_play (after_asks t) h) in
+    let K : Result AskResult RunError → Type 0 = λ h. Goes (switched_to s name changes reply (Err line)) [] (in_play (after_asks t) h) in
     subst G (sym is) (subst K (sym so) (refl, inl refl))
 refused-switched s name changes reply f refusal.Memory result t is so =
-    let K : Result Asked RunError → Type 0 = λ h. Goes (switched_to s name changes reply f) [] (in_play (after_asks t) h) in
+    let K : Result AskResult RunError → Type 0 = λ h. Goes (switched_to s name changes reply f) [] (in_play (after_asks t) h) in
     subst K (sym so) (at-memory (switched_to s name changes reply f))
 
 -- once the rows are known it goes on with that desk

@@ -11,8 +11,8 @@ use Rattle.command_desk.specs.declared.steps.Steps.{Steps}
 use Rattle.command_desk.specs.Answers.{OrFault}
 use Rattle.command_desk.specs.declared.steps.Refusal.{Refusal}
 use Rattle.command_desk.specs.declared.steps.Refusal.TheVariants as refusal
-use Rattle.session_state.specs.declared.answers.Asked.{Asked}
-use Rattle.session_state.specs.declared.answers.Asked.TheVariants as answered
+use Rattle.session_state.specs.declared.answers.AskResult.{AskResult}
+use Rattle.session_state.specs.declared.answers.AskResult.TheVariants as answered
 use Rattle.session_state.specs.declared.error.RunError.{RunError}
 use Rattle.session_state.specs.declared.error.RunError.TheVariants as error
 use Rattle.session_state.specs.declared.state.SessionState.{SessionState}
@@ -62,18 +62,18 @@ brings_lines (Ok steps) = list_any brings steps.asks
 brings_lines (Err line) = false
 
 -- all was done, and the command isn't over
-abbrev pub all_done : Result Asked RunError → Bool
+abbrev pub all_done : Result AskResult RunError → Bool
 all_done (Ok answered.On) = true
 all_done r = false
 
 -- all was done, to the last or to one with which the command is over
-abbrev pub is_on : Result Asked RunError → Bool
+abbrev pub is_on : Result AskResult RunError → Bool
 is_on (Ok answered.On) = true
 is_on (Ok answered.Over) = true
 is_on r = false
 
 -- if what follows is refused, or the run ends, the state stays; one that is cut off is looked at no more
-abbrev pub StaysUnlessOn : SessionState → SessionState → Result Asked RunError → Type 0
+abbrev pub StaysUnlessOn : SessionState → SessionState → Result AskResult RunError → Type 0
 StaysUnlessOn old new (Ok answered.On) = Unit {0}
 StaysUnlessOn old new (Ok answered.Over) = Unit {0}
 StaysUnlessOn old new (Ok (answered.Refused line)) = new ≡ old
@@ -81,7 +81,7 @@ StaysUnlessOn old new (Ok (answered.Ended status)) = new ≡ old
 StaysUnlessOn old new (Err error) = Unit {0}
 
 -- desk and draft stay, unless the command is over with an ask, or cut off in it
-abbrev pub KeepsDesk : SessionState → SessionState → Result Asked RunError → Type 0
+abbrev pub KeepsDesk : SessionState → SessionState → Result AskResult RunError → Type 0
 KeepsDesk old new (Ok answered.On) = OnlyFrames old new
 KeepsDesk old new (Ok answered.Over) = Unit {0}
 KeepsDesk old new (Ok (answered.Refused line)) = OnlyFrames old new
@@ -89,6 +89,6 @@ KeepsDesk old new (Ok (answered.Ended status)) = OnlyFrames old new
 KeepsDesk old new (Err error) = Unit {0}
 
 -- a refusal leaves its line, or is a cut because memory ran out
-abbrev pub IsRefusedSo : Refusal → Result Asked RunError → Type 0
+abbrev pub IsRefusedSo : Refusal → Result AskResult RunError → Type 0
 IsRefusedSo (refusal.Fault line) r = r ≡ Ok (answered.Refused line)
 IsRefusedSo refusal.Memory r = r ≡ Err error.Memory

@@ -21,7 +21,7 @@ use Rattle.show_commands.specs.Paging.{page_size, page_of, current_page}
 use Rattle.folder_commands.specs.Opening.{is_in, opening_line}
 use Rattle.session_asks.specs.declared.opening.Opening.{Opening}
 use Rattle.session_state.specs.declared.state.SessionState.{SessionState}
-use Rattle.session_state.specs.declared.outcome.Outcome.TheVariants.{Fine}
+use Rattle.session_state.specs.declared.outcome.SendOutcome.TheVariants.{Fine}
 use Rattle.session_state.specs.Placing.{actor_for, front_of, placed}
 use Rattle.session_state.specs.States.{with_desk}
 

@@ -23,7 +23,7 @@ use crate::viewing::view;
 use host_port::Host;
 use mail_text::Items;
 use read_commands::Ask as Wanted;
-use session_state::{Asked, RunError, SessionState, Status, commit, say_line, status_of};
+use session_state::{AskResult, RunError, SessionState, Status, commit, say_line, status_of};
 use std::alloc::Global;
 
 // Does one thing that is asked for. The state stays, but for the lines, the folder and the draft that this brings.
@@ -33,7 +33,7 @@ fn do_ask<H: Host>(
     state: &mut SessionState,
     host: &mut H,
     ask: Wanted,
-) -> Result<Asked, RunError>
+) -> Result<AskResult, RunError>
     requires { IsState state.old }
     ensures ran { Ran H.world host.old host.new
         (λ es. Goes (asked state.old ask) es (in_play (after_asks state.new) result)) }
@@ -67,15 +67,15 @@ fn do_ask<H: Host>(
             run_asked(alloc, state, host, command.bytes(), input.bytes())
         }
         Wanted::Edit { number, command } => edit(alloc, state, host, number, command.bytes()),
-        Wanted::Exit => Ok(Asked::Ended(status_of(state.outcome))),
+        Wanted::Exit => Ok(AskResult::Ended(status_of(state.outcome))),
     }
 }
 
 /// Whether all was done, and the command isn't over.
-pub(crate) fn all_done(asked: &Result<Asked, RunError>) -> bool
+pub(crate) fn all_done(asked: &Result<AskResult, RunError>) -> bool
     ensures { result ≡ all_done asked.now }
 {
-    matches!(asked, Ok(Asked::On))
+    matches!(asked, Ok(AskResult::On))
 }
 
 // Does what is asked for, in order, up to an answer with which the command is over, or that refuses what follows or
@@ -85,7 +85,7 @@ fn ask_all<H: Host>(
     state: &mut SessionState,
     host: &mut H,
     asks: Items<Wanted>,
-) -> Result<Asked, RunError>
+) -> Result<AskResult, RunError>
     requires { IsState state.old }
     ensures ran { Ran H.world host.old host.new
         (λ es. Goes (in_order asked state.old asks) es (in_play (after_asks state.new) result)) }
@@ -103,14 +103,14 @@ fn ask_all<H: Host>(
             return asked;
         }
     }
-    Ok(Asked::On)
+    Ok(AskResult::On)
 }
 
 // Whether all was done, to the last or to one with which the command is over.
-fn is_on(asked: &Result<Asked, RunError>) -> bool
+fn is_on(asked: &Result<AskResult, RunError>) -> bool
     ensures { result ≡ is_on asked.now }
 {
-    matches!(asked, Ok(Asked::On) | Ok(Asked::Over))
+    matches!(asked, Ok(AskResult::On) | Ok(AskResult::Over))
 }
 
 /// Does what is asked for, in order, up to an answer with which the command is over, or that refuses what follows or
@@ -120,7 +120,7 @@ pub fn do_asks<H: Host>(
     state: &mut SessionState,
     host: &mut H,
     asks: Items<Wanted>,
-) -> Result<Asked, RunError>
+) -> Result<AskResult, RunError>
     requires { IsState state.old }
     ensures ran { Ran H.world host.old host.new
         (λ es. Goes (in_order asked state.old asks) es (in_play (after_asks state.new) result)) }

@@ -6,7 +6,7 @@ ghost use Rattle.compose_tilde.specs.Views.{view_of, IsView};
 ghost use Rattle.command_desk.specs.Desks.{IsDesk};
 ghost use Rattle.session_asks.specs.Beginning.{at_message, beginning, begun, begun_with, composing, file_fault, subject_asked, view_as, with_new_draft};
 ghost use Rattle.session_state.specs.Bringing.{OnlyBrings};
-ghost use Rattle.session_state.specs.States.{IsState, rested, with_draft};
+ghost use Rattle.session_state.specs.States.{IsState, line_ended, with_draft};
 ghost use Rattle.session_state.specs.Answers.{after_asks, in_play, LineCaused, EndsByAsk};
 ghost use Rattle.session_asks.specs.Asks.{KeepsDesk};
 
@@ -16,7 +16,7 @@ use draft_text::{Draft, flattened};
 use host_port::Host;
 use mail_text::{Memory, Text};
 use read_commands::Desk;
-use session_state::{Asked, RunError, SessionState, name_fault, say};
+use session_state::{AskResult, RunError, SessionState, name_fault, say};
 use std::alloc::Global;
 
 /// What a line of a draft is read with.
@@ -61,14 +61,14 @@ fn begin_with<H: Host>(
     state: &mut SessionState,
     host: &mut H,
     compose: Compose,
-) -> Result<Asked, RunError>
+) -> Result<AskResult, RunError>
     requires { IsState state.old }
     ensures ran { Ran H.world host.old host.new
         (λ es. Goes (begun_with state.old compose) es (in_play (after_asks state.new) result)) }
     ensures brings { OnlyBrings state.old state.new }
     ensures valid { IsState state.new }
     ensures desk { KeepsDesk state.old state.new result }
-    ensures over { IfOk result (λ asked. asked ≡ Asked.Over) }
+    ensures over { IfOk result (λ asked. asked ≡ AskResult.Over) }
     ensures begun { OnOk result (state.new ≡ with_draft state.old (Some compose)) }
     ensures cause { LineCaused (H.world.counts host.old) (H.world.counts host.new) result }
 {
@@ -76,7 +76,7 @@ fn begin_with<H: Host>(
     match ask_subject(host, asks) {
         Ok(()) => {
             open_draft(&mut state.draft, compose);
-            Ok(Asked::Over)
+            Ok(AskResult::Over)
         }
         Err(error) => Err(error),
     }
@@ -88,14 +88,14 @@ pub(crate) fn begin<H: Host>(
     state: &mut SessionState,
     host: &mut H,
     draft: &Draft,
-) -> Result<Asked, RunError>
+) -> Result<AskResult, RunError>
     requires { IsState state.old }
     ensures ran { Ran H.world host.old host.new
         (λ es. Goes (begun state.old draft.now) es (in_play (after_asks state.new) result)) }
     ensures brings { OnlyBrings state.old state.new }
     ensures valid { IsState state.new }
     ensures desk { KeepsDesk state.old state.new result }
-    ensures over { IfOk result (λ asked. asked ≡ Asked.Over) }
+    ensures over { IfOk result (λ asked. asked ≡ AskResult.Over) }
     ensures begun { OnOk result (state.new ≡ with_new_draft state.old draft.now) }
     ensures cause { LineCaused (H.world.counts host.old) (H.world.counts host.new) result }
 {
@@ -112,7 +112,7 @@ pub fn compose<H: Host>(
 ) -> Result<(), RunError>
     requires { IsState state.old }
     ensures ran { Ran H.world host.old host.new
-        (λ es. Goes (composing state.old draft.now) es (in_play (λ u. rested state.new) result)) }
+        (λ es. Goes (composing state.old draft.now) es (in_play (λ u. line_ended state.new) result)) }
     ensures valid { IsState state.new }
     ensures begun { OnOk result (state.new ≡ with_new_draft state.old draft.now) }
     ensures cause { LineCaused (H.world.counts host.old) (H.world.counts host.new) result }
@@ -181,7 +181,7 @@ fn begin_placed<H: Host>(
     draft: &Draft,
     file: &Option<Text>,
     current: Option<u32>,
-) -> Result<Asked, RunError>
+) -> Result<AskResult, RunError>
     requires { IsState state.old }
     ensures ran { Ran H.world host.old host.new
         (λ es. Goes (beginning state.old draft.now file.now current None) es (in_play (after_asks state.new) result)) }
@@ -196,7 +196,7 @@ fn begin_placed<H: Host>(
         Ok(_) => {
             move_to(alloc, state, current);
             state.file = copy;
-            Ok(Asked::Over)
+            Ok(AskResult::Over)
         }
         Err(error) => Err(error),
     }
@@ -211,7 +211,7 @@ pub(crate) fn begin_recorded<H: Host>(
     draft: &Draft,
     file: &Option<Text>,
     current: Option<u32>,
-) -> Result<Asked, RunError>
+) -> Result<AskResult, RunError>
     requires { IsState state.old }
     ensures ran { Ran H.world host.old host.new
         (λ es. Goes (beginning state.old draft.now file.now current (file_fault state.old file.now)) es
@@ -223,7 +223,7 @@ pub(crate) fn begin_recorded<H: Host>(
     ensures cause { LineCaused (H.world.counts host.old) (H.world.counts host.new) result }
 {
     match file_fault(alloc, state, file)? {
-        Some(line) => Ok(Asked::Refused { line }),
+        Some(line) => Ok(AskResult::Refused { line }),
         None => begin_placed(alloc, state, host, draft, file, current),
     }
 }

@@ -4,7 +4,7 @@ ghost use Rattle.session_state.specs.Bringing.{HasPlace, with_lines, OnlyBrings}
 ghost use Rattle.session_state.specs.States.{OnlyFrames};
 
 use mail_text::{Memory, Text};
-use session_state::{Asked, Frame, FrameKind, SessionState};
+use session_state::{AskResult, Frame, FrameKind, SessionState};
 
 // How many bytes a text has: a number of 64 bits.
 fn size_of(text: &Text) -> usize
@@ -15,9 +15,13 @@ fn size_of(text: &Text) -> usize
 }
 
 /// Puts the lines of a text in front of those that wait.
-pub(crate) fn bring(state: &mut SessionState, kind: FrameKind, text: Text) -> Result<Asked, Memory>
+pub(crate) fn bring(
+    state: &mut SessionState,
+    kind: FrameKind,
+    text: Text,
+) -> Result<AskResult, Memory>
     requires { HasPlace kind state.old.frames }
-    ensures on { IfOk result (λ asked. asked ≡ Asked.On) }
+    ensures on { IfOk result (λ asked. asked ≡ AskResult.On) }
     ensures ok { IfOk result (λ asked. state.new ≡ with_lines kind state.old text) }
     ensures brings { OnlyBrings state.old state.new }
     ensures desk { OnlyFrames state.old state.new }
@@ -28,7 +32,7 @@ pub(crate) fn bring(state: &mut SessionState, kind: FrameKind, text: Text) -> Re
     let nested = state.desk.conditions.depth();
     let frame = Frame::new(state.frames.origin(), kind, nested, text);
     match state.frames.push(frame) {
-        Ok(()) => Ok(Asked::On),
+        Ok(()) => Ok(AskResult::On),
         Err(Memory) => Err(Memory),
     }
 }

@@ -7,14 +7,14 @@ ghost use Rattle.session_state.specs.Answers.{after_asks, EndsNoRun};
 
 use crate::bringing::bring;
 use mail_text::{Memory, Text};
-use session_state::{Asked, FrameKind, RunError, SessionState, refused};
+use session_state::{AskResult, FrameKind, RunError, SessionState, refused};
 use std::alloc::Global;
 
 /// The most calls that are open at once.
 const CALL_LIMIT: usize = 32;
 
 // Brings the lines of a macro, unless as many calls are open as may be.
-fn call_lines(alloc: Global, state: &mut SessionState, text: &Text) -> Result<Asked, Memory>
+fn call_lines(alloc: Global, state: &mut SessionState, text: &Text) -> Result<AskResult, Memory>
     ensures means { IfOk result (λ asked. after_asks state.new asked ≡ called state.old text.now) }
     ensures brings { OnlyBrings state.old state.new }
     ensures desk { OnlyFrames state.old state.new }
@@ -29,7 +29,11 @@ fn call_lines(alloc: Global, state: &mut SessionState, text: &Text) -> Result<As
 }
 
 /// Brings the lines of a macro; running out of memory ends the run.
-pub(crate) fn call(alloc: Global, state: &mut SessionState, text: &Text) -> Result<Asked, RunError>
+pub(crate) fn call(
+    alloc: Global,
+    state: &mut SessionState,
+    text: &Text,
+) -> Result<AskResult, RunError>
     ensures means { IfOk result (λ asked. after_asks state.new asked ≡ called state.old text.now) }
     ensures memory { IfErr result (λ e. e ≡ RunError.Memory) }
     ensures brings { OnlyBrings state.old state.new }

@@ -37,7 +37,7 @@ use mbox_scan::{Folder, is_message, trimmed_len};
 use message_state::{Act, Order, Row, RowList, row_of};
 use read_commands::Desk;
 use session_play::run_editor;
-use session_state::{Asked, RunError, SessionState, commit, edit_file, refused};
+use session_state::{AskResult, RunError, SessionState, commit, edit_file, refused};
 use std::alloc::Global;
 use thread_view::{View, ViewKind, view_of};
 
@@ -263,7 +263,7 @@ fn lay_and_tell<H: Host>(
     n: u32,
     edited: Edited,
     reply: &Text,
-) -> Result<Asked, RunError>
+) -> Result<AskResult, RunError>
     requires state { IsState state.old }
     requires message { IsMessageOf state.old.desk.shown n }
     requires laid { IsDesk (laid_as state.old.desk n edited) }
@@ -289,7 +289,7 @@ fn commit_edited<H: Host>(
     changes: Items<Change>,
     edited: Edited,
     reply: &Text,
-) -> Result<Asked, RunError>
+) -> Result<AskResult, RunError>
     requires state { IsState state.old }
     requires message { IsMessageOf state.old.desk.shown n }
     requires laid { IsDesk (laid_as state.old.desk n edited) }
@@ -317,7 +317,7 @@ fn change_text<H: Host>(
     host: &mut H,
     n: u32,
     text: &[u8],
-) -> Result<Asked, RunError>
+) -> Result<AskResult, RunError>
     requires state { IsState state.old }
     requires message { IsMessageOf state.old.desk.shown n }
     requires text { is_message text.now ≡ true }
@@ -349,7 +349,7 @@ fn look(alloc: Global, desk: &mut Desk, n: u32) -> Result<(), Memory>
 }
 
 // The text of message n was left as it was.
-fn look_only(alloc: Global, state: &mut SessionState, n: u32) -> Result<Asked, RunError>
+fn look_only(alloc: Global, state: &mut SessionState, n: u32) -> Result<AskResult, RunError>
     requires state { IsState state.old }
     requires message { IsMessageOf state.old.desk.shown n }
     ensures goes { Goes (Ret (Over (with_desk state.old (looked state.old.desk n)))) [] (in_play (after_asks state.new) result) }
@@ -360,7 +360,7 @@ fn look_only(alloc: Global, state: &mut SessionState, n: u32) -> Result<Asked, R
     ensures memory { IfErr result (λ e. e ≡ RunError.Memory) }
 {
     look(alloc, &mut state.desk, n)?;
-    Ok(Asked::Over)
+    Ok(AskResult::Over)
 }
 
 // What follows an editor that left this message.
@@ -370,7 +370,7 @@ fn take_text<H: Host>(
     host: &mut H,
     n: u32,
     text: &[u8],
-) -> Result<Asked, RunError>
+) -> Result<AskResult, RunError>
     requires state { IsState state.old }
     requires message { IsMessageOf state.old.desk.shown n }
     requires text { is_message text.now ≡ true }
@@ -396,7 +396,7 @@ fn take_edited<H: Host>(
     host: &mut H,
     n: u32,
     answer: Option<EditAnswer>,
-) -> Result<Asked, RunError>
+) -> Result<AskResult, RunError>
     requires state { IsState state.old }
     requires message { IsMessageOf state.old.desk.shown n }
     ensures ran { Ran H.world host.old host.new
@@ -422,7 +422,7 @@ fn run_on<H: Host>(
     name: &[u8],
     command: &[u8],
     text: &[u8],
-) -> Result<Asked, RunError>
+) -> Result<AskResult, RunError>
     requires state { IsState state.old }
     requires message { IsMessageOf state.old.desk.shown n }
     ensures ran { let s = state.old in Ran H.world host.old host.new
@@ -448,7 +448,7 @@ fn edit_message<H: Host>(
     host: &mut H,
     n: u32,
     command: &[u8],
-) -> Result<Asked, RunError>
+) -> Result<AskResult, RunError>
     requires state { IsState state.old }
     requires message { IsMessageOf state.old.desk.shown n }
     ensures ran { Ran H.world host.old host.new
@@ -480,7 +480,7 @@ pub(crate) fn edit<H: Host>(
     host: &mut H,
     n: u32,
     command: &[u8],
-) -> Result<Asked, RunError>
+) -> Result<AskResult, RunError>
     requires { IsState state.old }
     ensures ran { Ran H.world host.old host.new
         (λ es. Goes (edits state.old n command.now) es (in_play (after_asks state.new) result)) }

@@ -5,7 +5,7 @@ ghost use Rattle.session_state.specs.Answers.{after_asks, EndsNoRun};
 
 use command_desk::line_of;
 use mail_text::{Memory, Text};
-use session_state::{Asked, RunError, SessionState, name_fault};
+use session_state::{AskResult, RunError, SessionState, name_fault};
 use std::alloc::Global;
 
 // What stands in the way: what is wrong with the name of the file, or else as many others as may be.
@@ -23,14 +23,18 @@ fn gather_fault(alloc: Global, state: &SessionState, name: &[u8]) -> Result<Opti
 }
 
 /// Refuses what is to be gathered, if something stands in its way; running out of memory ends the run.
-pub(crate) fn gather(alloc: Global, state: &SessionState, name: &[u8]) -> Result<Asked, RunError>
+pub(crate) fn gather(
+    alloc: Global,
+    state: &SessionState,
+    name: &[u8],
+) -> Result<AskResult, RunError>
     ensures means { IfOk result
         (λ asked. after_asks state.now asked ≡ gathers state.now (gather_fault state.now name.now)) }
     ensures memory { IfErr result (λ e. e ≡ RunError.Memory) }
     ensures goes_on { IfOk result EndsNoRun }
 {
     match gather_fault(alloc, state, name)? {
-        Some(line) => Ok(Asked::Refused { line }),
-        None => Ok(Asked::On),
+        Some(line) => Ok(AskResult::Refused { line }),
+        None => Ok(AskResult::On),
     }
 }

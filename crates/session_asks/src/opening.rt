@@ -21,7 +21,7 @@ use message_state::{Mark, Order, Row, RowList, Shown, State, row_of};
 use quit_rules::Batch;
 use rc_conditionals::{Conditions, Mode};
 use read_commands::{Desk, Open, Refusal, page_of, page_size};
-use session_state::{Frames, Outcome, SessionState, front_of, placed};
+use session_state::{Frames, SendOutcome, SessionState, front_of, placed};
 use std::alloc::Global;
 use thread_view::ViewKind;
 
@@ -140,7 +140,7 @@ pub fn first_state(
         count: 0,
         draft: None,
         file: None,
-        outcome: Outcome::Fine,
+        outcome: SendOutcome::Fine,
     })
 }
 

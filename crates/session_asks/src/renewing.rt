@@ -28,7 +28,7 @@ use mbox_scan::Folder;
 use message_state::{Order, Row, RowList, Shown};
 use read_commands::Desk;
 use session_play::{Found, try_load};
-use session_state::{Asked, RunError, SessionState, placed, say};
+use session_state::{AskResult, RunError, SessionState, placed, say};
 use std::alloc::Global;
 use thread_view::{View, view_of};
 
@@ -144,7 +144,7 @@ fn take_in(alloc: Global, desk: &mut Desk, found: Option<Found>) -> Result<(), R
 }
 
 /// Prints bytes, with which the command is over.
-pub(crate) fn say_last<H: Host>(host: &mut H, bytes: &Text) -> Result<Asked, RunError>
+pub(crate) fn say_last<H: Host>(host: &mut H, bytes: &Text) -> Result<AskResult, RunError>
     ensures ran { (s : SessionState) → Ran H.world host.old host.new
         (λ es. Goes (Ask (Say bytes.now) (λ _. Ret (Over s))) es (in_play (after_asks s) result)) }
     ensures desk { (s : SessionState) → (t : SessionState) → KeepsDesk s t result }
@@ -152,13 +152,18 @@ pub(crate) fn say_last<H: Host>(host: &mut H, bytes: &Text) -> Result<Asked, Run
     ensures cause { LineCaused (H.world.counts host.old) (H.world.counts host.new) result }
 {
     match say(host, bytes.bytes()) {
-        Ok(()) => Ok(Asked::Over),
+        Ok(()) => Ok(AskResult::Over),
         Err(error) => Err(error),
     }
 }
 
 // Prints how many messages came to so many on a desk.
-fn tell<H: Host>(alloc: Global, host: &mut H, before: usize, desk: &Desk) -> Result<Asked, RunError>
+fn tell<H: Host>(
+    alloc: Global,
+    host: &mut H,
+    before: usize,
+    desk: &Desk,
+) -> Result<AskResult, RunError>
     requires { before ≤ length desk.now.shown.rows }
     ensures ran { (s : SessionState) → length s.desk.shown.rows ≡ before → Ran H.world host.old host.new
         (λ es. Goes (telling s desk.now) es (in_play (after_asks (with_desk s desk.now)) result)) }
@@ -176,7 +181,7 @@ fn take_in_and_tell<H: Host>(
     state: &mut SessionState,
     host: &mut H,
     found: Option<Found>,
-) -> Result<Asked, RunError>
+) -> Result<AskResult, RunError>
     requires state { IsState state.old }
     ensures ran { Ran H.world host.old host.new
         (λ es. Goes (taking state.old (loaded_again state.old.desk found)) es (in_play (after_asks state.new) result)) }
@@ -199,7 +204,7 @@ fn load_again<H: Host>(
     state: &mut SessionState,
     host: &mut H,
     file: &[u8],
-) -> Result<Asked, RunError>
+) -> Result<AskResult, RunError>
     requires state { IsState state.old }
     requires file { is_short_name file.now ≡ true }
     ensures ran { Ran H.world host.old host.new (λ es. Goes (Ask (Try file.now) (λ f.
@@ -221,7 +226,7 @@ fn renew_tested<H: Host>(
     alloc: Global,
     state: &mut SessionState,
     host: &mut H,
-) -> Result<Asked, RunError>
+) -> Result<AskResult, RunError>
     requires state { IsState state.old }
     requires name { folder_fault state.old ≡ None }
     ensures ran { Ran H.world host.old host.new
@@ -243,7 +248,7 @@ pub(crate) fn renew<H: Host>(
     alloc: Global,
     state: &mut SessionState,
     host: &mut H,
-) -> Result<Asked, RunError>
+) -> Result<AskResult, RunError>
     requires { IsState state.old }
     ensures ran { Ran H.world host.old host.new
         (λ es. Goes (renews state.old (folder_fault state.old)) es (in_play (after_asks state.new) result)) }
@@ -254,7 +259,7 @@ pub(crate) fn renew<H: Host>(
     ensures cause { LineCaused (H.world.counts host.old) (H.world.counts host.new) result }
 {
     match folder_fault(alloc, state)? {
-        Some(line) => Ok(Asked::Refused { line }),
+        Some(line) => Ok(AskResult::Refused { line }),
         None => renew_tested(alloc, state, host),
     }
 }

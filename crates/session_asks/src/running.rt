@@ -12,7 +12,7 @@ use host_port::{ChildAnswer, Host};
 use mail_text::{Items, Memory, Text};
 use read_commands::Desk;
 use session_play::run_child;
-use session_state::{Asked, RunError, SessionState, refused, say_line};
+use session_state::{AskResult, RunError, SessionState, refused, say_line};
 use std::alloc::Global;
 
 // The arguments with which the shell runs a command.
@@ -45,9 +45,9 @@ pub fn by_shell<H: Host>(
 }
 
 // Prints what there is to print of a command that was run.
-fn say_of<H: Host>(host: &mut H, child: ChildAnswer) -> Result<Asked, RunError>
+fn say_of<H: Host>(host: &mut H, child: ChildAnswer) -> Result<AskResult, RunError>
     ensures ran { (s : SessionState) → Ran H.world host.old host.new
-        (λ es. Goes (Ask (Say (said_of child)) (λ _. Ret (after_asks s Asked.On))) es (in_play (after_asks s) result)) }
+        (λ es. Goes (Ask (Say (said_of child)) (λ _. Ret (after_asks s AskResult.On))) es (in_play (after_asks s) result)) }
     ensures done { IfOk result EndsByAsk }
     ensures cause { LineCaused (H.world.counts host.old) (H.world.counts host.new) result }
 {
@@ -60,7 +60,7 @@ fn after_run<H: Host>(
     alloc: Global,
     host: &mut H,
     answer: Option<ChildAnswer>,
-) -> Result<Asked, RunError>
+) -> Result<AskResult, RunError>
     ensures ran { (s : SessionState) → Ran H.world host.old host.new
         (λ es. Goes (after_run s answer) es (in_play (after_asks s) result)) }
     ensures done { IfOk result EndsByAsk }
@@ -80,7 +80,7 @@ pub(crate) fn run_asked<H: Host>(
     host: &mut H,
     command: &[u8],
     input: &[u8],
-) -> Result<Asked, RunError>
+) -> Result<AskResult, RunError>
     ensures ran { Ran H.world host.old host.new
         (λ es. Goes (run_asked state.now command.now input.now) es (in_play (after_asks state.now) result)) }
     ensures done { IfOk result EndsByAsk }

@@ -14,7 +14,7 @@ use host_port::Host;
 use mail_text::{Memory, Text};
 use mailx_vars::is_short_name;
 use session_play::{Found, try_load};
-use session_state::{Asked, FrameKind, RunError, SessionState, placed, refused};
+use session_state::{AskResult, FrameKind, RunError, SessionState, placed, refused};
 use std::alloc::Global;
 
 /// The most sourced files that are open at once.
@@ -40,7 +40,7 @@ fn after_load(
     state: &mut SessionState,
     name: &[u8],
     found: Option<Found>,
-) -> Result<Asked, Memory>
+) -> Result<AskResult, Memory>
     requires { sources state.old.frames < source_limit }
     ensures means { IfOk result (λ asked. after_asks state.new asked ≡ after_load state.old name.now found) }
     ensures brings { OnlyBrings state.old state.new }
@@ -67,7 +67,7 @@ fn load_file<H: Host>(
     host: &mut H,
     name: &[u8],
     file: &[u8],
-) -> Result<Asked, RunError>
+) -> Result<AskResult, RunError>
     requires file { is_short_name file.now ≡ true }
     requires few { sources state.old.frames < source_limit }
     ensures ran { Ran H.world host.old host.new
@@ -90,7 +90,7 @@ fn load_lines<H: Host>(
     state: &mut SessionState,
     host: &mut H,
     name: &[u8],
-) -> Result<Asked, RunError>
+) -> Result<AskResult, RunError>
     requires { source_fault state.old name.now ≡ None }
     ensures ran { Ran H.world host.old host.new
         (λ es. Goes (sourced state.old name.now None) es (in_play (after_asks state.new) result)) }
@@ -109,7 +109,7 @@ pub(crate) fn source<H: Host>(
     state: &mut SessionState,
     host: &mut H,
     name: &[u8],
-) -> Result<Asked, RunError>
+) -> Result<AskResult, RunError>
     ensures ran { Ran H.world host.old host.new
         (λ es. Goes (sourced state.old name.now (source_fault state.old name.now)) es
         (in_play (after_asks state.new) result)) }
@@ -119,7 +119,7 @@ pub(crate) fn source<H: Host>(
     ensures memory { IfErr result (λ e. e ≡ RunError.Memory) }
 {
     match source_fault(alloc, state, name)? {
-        Some(line) => Ok(Asked::Refused { line }),
+        Some(line) => Ok(AskResult::Refused { line }),
         None => load_lines(alloc, state, host, name),
     }
 }

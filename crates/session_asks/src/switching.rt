@@ -27,7 +27,7 @@ use mailx_vars::is_short_name;
 use mbox_scan::Folder;
 use read_commands::Desk;
 use session_play::{Found, try_load};
-use session_state::{Asked, RunError, SessionState, commit, names_fault, placed, say};
+use session_state::{AskResult, RunError, SessionState, commit, names_fault, placed, say};
 use std::alloc::Global;
 
 // What stands in the way of a load: what is wrong with the name of the file, or else with that of one that is changed.
@@ -109,7 +109,7 @@ fn announce<H: Host>(
     reply: &Text,
     opening: Opening,
     previous: Text,
-) -> Result<Asked, RunError>
+) -> Result<AskResult, RunError>
     requires state { IsState state.old }
     requires size { IsKnownSize (page_size state.old.desk) opening.size }
     requires some { IfSome opening.size (λ n. 0 < n) }
@@ -124,7 +124,7 @@ fn announce<H: Host>(
 {
     lay(&mut state.desk, opening, previous);
     say_opened(alloc, host, &state.desk, reply)?;
-    Ok(Asked::Over)
+    Ok(AskResult::Over)
 }
 
 // Commits the changes and opens the folder.
@@ -136,7 +136,7 @@ fn leave_for<H: Host>(
     reply: &Text,
     opening: Opening,
     previous: Text,
-) -> Result<Asked, RunError>
+) -> Result<AskResult, RunError>
     requires state { IsState state.old }
     requires size { IsKnownSize (page_size state.old.desk) opening.size }
     requires some { IfSome opening.size (λ n. 0 < n) }
@@ -183,7 +183,7 @@ fn switch_to<H: Host>(
     changes: Items<Change>,
     reply: &Text,
     folder: Folder,
-) -> Result<Asked, RunError>
+) -> Result<AskResult, RunError>
     requires state { IsState state.old }
     ensures ran { Ran H.world host.old host.new
         (λ es. Goes (switched_to state.old name.now changes reply.now (Ok folder)) es
@@ -199,13 +199,13 @@ fn switch_to<H: Host>(
 }
 
 /// What a refusal leaves.
-pub(crate) fn refused_by(refusal: Refusal) -> Result<Asked, RunError>
+pub(crate) fn refused_by(refusal: Refusal) -> Result<AskResult, RunError>
     ensures refused { IsRefusedSo refusal result }
     ensures end { IfOk result EndsByAsk }
     ensures cause { (old : Counts) (new : Counts) → LineCaused old new result }
 {
     match refusal {
-        Refusal::Fault { line } => Ok(Asked::Refused { line }),
+        Refusal::Fault { line } => Ok(AskResult::Refused { line }),
         Refusal::Memory => Err(RunError::Memory),
     }
 }
@@ -219,7 +219,7 @@ fn switch_found<H: Host>(
     changes: Items<Change>,
     reply: &Text,
     found: Option<Found>,
-) -> Result<Asked, RunError>
+) -> Result<AskResult, RunError>
     requires state { IsState state.old }
     ensures ran { Ran H.world host.old host.new (λ es.
         Goes (switched_to state.old name.now changes reply.now
@@ -246,7 +246,7 @@ fn load_file<H: Host>(
     file: &[u8],
     changes: Items<Change>,
     reply: &Text,
-) -> Result<Asked, RunError>
+) -> Result<AskResult, RunError>
     requires state { IsState state.old }
     requires file { is_short_name file.now ≡ true }
     ensures ran { Ran H.world host.old host.new (λ es. Goes (Ask (Try file.now) (λ f.
@@ -272,7 +272,7 @@ fn load_and_switch<H: Host>(
     name: &[u8],
     changes: Items<Change>,
     reply: &Text,
-) -> Result<Asked, RunError>
+) -> Result<AskResult, RunError>
     requires state { IsState state.old }
     requires names { open_fault state.old name.now changes ≡ None }
     ensures ran { Ran H.world host.old host.new (λ es. Goes (switches state.old name.now changes reply.now None)
@@ -296,7 +296,7 @@ pub(crate) fn switch<H: Host>(
     name: &[u8],
     changes: Items<Change>,
     reply: &Text,
-) -> Result<Asked, RunError>
+) -> Result<AskResult, RunError>
     requires { IsState state.old }
     ensures ran { let fault = open_fault state.old name.now changes in Ran H.world host.old host.new
         (λ es. Goes (switches state.old name.now changes reply.now fault) es
@@ -308,7 +308,7 @@ pub(crate) fn switch<H: Host>(
     ensures cause { LineCaused (H.world.counts host.old) (H.world.counts host.new) result }
 {
     match open_fault(alloc, state, name, changes.items())? {
-        Some(line) => Ok(Asked::Refused { line }),
+        Some(line) => Ok(AskResult::Refused { line }),
         None => load_and_switch(alloc, state, host, name, changes, reply),
     }
 }

@@ -8,7 +8,7 @@ ghost use Rattle.session_asks.specs.Asks.{KeepsDesk};
 ghost use Rattle.session_asks.specs.Viewing.{views, IsViewed};
 
 use mail_text::Memory;
-use session_state::{Asked, RunError, SessionState};
+use session_state::{AskResult, RunError, SessionState};
 use std::alloc::Global;
 use thread_view::{View, ViewKind, view_of};
 
@@ -31,7 +31,7 @@ pub(crate) fn view(
     alloc: Global,
     state: &mut SessionState,
     kind: ViewKind,
-) -> Result<Asked, RunError>
+) -> Result<AskResult, RunError>
     requires { IsState state.old }
     ensures goes { Goes (views state.old kind) [] (in_play (after_asks state.new) result) }
     ensures brings { OnlyBrings state.old state.new }
@@ -41,5 +41,5 @@ pub(crate) fn view(
     ensures memory { IfErr result (λ e. e ≡ RunError.Memory) }
 {
     show_in(alloc, state, kind)?;
-    Ok(Asked::Over)
+    Ok(AskResult::Over)
 }

@@ -30,7 +30,7 @@ use Rattle.session_play.specs.declared.changing.Committed.TheVariants as committ
 use Rattle.session_play.specs.declared.naming.NameFault.{NameFault}
 use Rattle.session_play.specs.declared.stop.Stop.TheVariants as stop
 use Rattle.session_play.specs.Causes.{some_in_failed, some_out_failed, bytes_in}
-use Rattle.session_play.specs.Committing.{answer_as, Commit, IsCommitOf, IsWellNamed, first_misnamed, taken}
+use Rattle.session_play.specs.Committing.{answer_as, Commit, IsCommitOf, IsWellNamed, first_target_fault, taken}
 use Rattle.session_play.specs.Play.{Ask, Ret, Changes, Goes, Caused}
 
 did : (c : Commit) → IsWellNamed c → (es : List Event) (a : Committed) → IsCommitOf c es (answer_as a) → Goes {R = Attempt} (Ask (Changes c) Ret) es (Ok (Made a))
@@ -46,8 +46,9 @@ commit-goes c well (Err (error.TooManyNames n)) es h = did c well es (committed.
 commit-goes c well (Err (error.Disk passed)) es h = inr (stop.Disk, refl, inr (well, (passed, h)))
 commit-goes c well (Err error.Memory) es h = inr (stop.Memory, refl, inr (well, h))
 
-pub misnamed-goes : (c : Commit) (name : List ℕ) (fault : NameFault) → first_misnamed c.actor c.changes ≡ Some (name, fault) → Goes {R = Attempt} (Ask (Changes c) Ret) [] (Ok (Misnamed name fault))
-misnamed-goes c name fault is = inl (Misnamed name fault, [], [], refl, (is, refl), (refl, inl refl))
+pub target_fault-goes : (c : Commit) (name : List ℕ) (fault : NameFault) → first_target_fault c.actor c.changes ≡ Some (name, fault)
+    → Goes {R = Attempt} (Ask (Changes c) Ret) [] (Ok (Misnamed name fault))
+target_fault-goes c name fault is = inl (Misnamed name fault, [], [], refl, (is, refl), (refl, inl refl))
 
 pub commit-caused : (old now : Counts) (answer : Result Unit CommitError) → CommitCause old now answer → Caused old now (taken answer)
 commit-caused old now (Ok u) h = tt

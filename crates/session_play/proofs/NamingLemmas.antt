@@ -13,15 +13,15 @@ use Rattle.folder_commit.specs.Plans.{AreFiles}
 use Rattle.mailx_vars.specs.Names.{is_short_name}
 use Rattle.session_play.specs.declared.naming.NameFault.{NameFault}
 use Rattle.session_play.specs.declared.naming.NameFault.TheVariants as fault
-use Rattle.session_play.specs.Naming.{misnamed}
-use Rattle.session_play.specs.Committing.{first_misnamed}
+use Rattle.session_play.specs.Naming.{target_fault}
+use Rattle.session_play.specs.Committing.{first_target_fault}
 
 -- what is wrong with the name of one change
 abbrev with_name : List ℕ → Option NameFault → Option (List ℕ × NameFault)
 with_name name o = option_map (λ fault. (name, fault)) o
 
 abbrev here : List ℕ → Change → Option (List ℕ × NameFault)
-here actor c = with_name (name_of c) (misnamed actor (name_of c))
+here actor c = with_name (name_of c) (target_fault actor (name_of c))
 
 none-here : (name : List ℕ) (o : Option NameFault) → with_name name o ≡ None → o ≡ None
 none-here name None is = refl
@@ -32,7 +32,7 @@ both-none (Some x) b is = absurd (cc is)
 both-none None b is = (refl, is)
 
 -- a name that isn't at fault can be that of a file that a commit changes
-named-file : (actor name : List ℕ) → misnamed actor name ≡ None → is_file_name actor name ≡ true
+named-file : (actor name : List ℕ) → target_fault actor name ≡ None → is_file_name actor name ≡ true
 named-file actor name plain = go (is_short_name name) (is_file_name actor name) plain
   where
     go : (short file : Bool) → (if short then (if file then None else Some fault.Reserved) else Some fault.Bad) ≡ None → file ≡ true
@@ -41,29 +41,29 @@ named-file actor name plain = go (is_short_name name) (is_file_name actor name) 
     go false file h = absurd (cc h)
 
 -- so can the files of changes none of whose names is at fault
-pub named-files : (actor : List ℕ) (cs : List Change) → first_misnamed actor cs ≡ None → AreFiles actor cs
+pub named-files : (actor : List ℕ) (cs : List Change) → first_target_fault actor cs ≡ None → AreFiles actor cs
 named-files actor [] plain = All-nil (λ (c : Change). is_file_name actor (name_of c) ≡ true)
 named-files actor (c ∷ cs) plain =
-    let p = both-none (here actor c) (first_misnamed actor cs) plain in
-    All-cons (λ (c : Change). is_file_name actor (name_of c) ≡ true) c cs (named-file actor (name_of c) (none-here (name_of c) (misnamed actor (name_of c)) p.0)) (named-files actor cs p.1)
+    let p = both-none (here actor c) (first_target_fault actor cs) plain in
+    All-cons (λ (c : Change). is_file_name actor (name_of c) ≡ true) c cs (named-file actor (name_of c) (none-here (name_of c) (target_fault actor (name_of c)) p.0)) (named-files actor cs p.1)
 
 -- the changes from a place on
 from-place : (actor : List ℕ) (cs : List Change) (i : ℕ) (d c : Change) → i < length cs → get_or cs i d ≡ c
-    → first_misnamed actor (drop i cs) ≡ option_or (here actor c) (first_misnamed actor (drop (i + 1) cs))
+    → first_target_fault actor (drop i cs) ≡ option_or (here actor c) (first_target_fault actor (drop (i + 1) cs))
 from-place actor cs i d c within is =
-    ap (first_misnamed actor) (drop-cons cs i d within)
-    ∙ (ap (λ (b : Change). option_or (here actor b) (first_misnamed actor (drop (suc i) cs))) is
-    ∙ ap (λ (j : ℕ). option_or (here actor c) (first_misnamed actor (drop j cs))) (sym (add-one i)))
+    ap (first_target_fault actor) (drop-cons cs i d within)
+    ∙ (ap (λ (b : Change). option_or (here actor b) (first_target_fault actor (drop (suc i) cs))) is
+    ∙ ap (λ (j : ℕ). option_or (here actor c) (first_target_fault actor (drop j cs))) (sym (add-one i)))
 
 pub fault-here : (actor : List ℕ) (cs : List Change) (i : ℕ) (d c : Change) (f : NameFault) → i < length cs → get_or cs i d ≡ c
-    → misnamed actor (name_of c) ≡ Some f → first_misnamed actor (drop i cs) ≡ Some (name_of c, f)
+    → target_fault actor (name_of c) ≡ Some f → first_target_fault actor (drop i cs) ≡ Some (name_of c, f)
 fault-here actor cs i d c f within is wrong =
-    from-place actor cs i d c within is ∙ ap (λ (o : Option NameFault). option_or (with_name (name_of c) o) (first_misnamed actor (drop (i + 1) cs))) wrong
+    from-place actor cs i d c within is ∙ ap (λ (o : Option NameFault). option_or (with_name (name_of c) o) (first_target_fault actor (drop (i + 1) cs))) wrong
 
 pub fault-later : (actor : List ℕ) (cs : List Change) (i : ℕ) (d c : Change) → i < length cs → get_or cs i d ≡ c
-    → misnamed actor (name_of c) ≡ None → first_misnamed actor (drop i cs) ≡ first_misnamed actor (drop (i + 1) cs)
+    → target_fault actor (name_of c) ≡ None → first_target_fault actor (drop i cs) ≡ first_target_fault actor (drop (i + 1) cs)
 fault-later actor cs i d c within is plain =
-    from-place actor cs i d c within is ∙ ap (λ (o : Option NameFault). option_or (with_name (name_of c) o) (first_misnamed actor (drop (i + 1) cs))) plain
+    from-place actor cs i d c within is ∙ ap (λ (o : Option NameFault). option_or (with_name (name_of c) o) (first_target_fault actor (drop (i + 1) cs))) plain
 
-pub fault-nowhere : (actor : List ℕ) (cs : List Change) (i : ℕ) → length cs ≤ i → first_misnamed actor (drop i cs) ≡ None
-fault-nowhere actor cs i past = ap (first_misnamed actor) (drop_all i cs past)
+pub fault-nowhere : (actor : List ℕ) (cs : List Change) (i : ℕ) → length cs ≤ i → first_target_fault actor (drop i cs) ≡ None
+fault-nowhere actor cs i past = ap (first_target_fault actor) (drop_all i cs past)

@@ -19,7 +19,7 @@ use Rattle.session_play.specs.declared.changing.Attempt.TheVariants.{Made, Misna
 use Rattle.session_play.specs.declared.changing.Committed.{Committed}
 use Rattle.session_play.specs.declared.changing.Committed.TheVariants as committed
 use Rattle.session_play.specs.declared.naming.NameFault.{NameFault}
-use Rattle.session_play.specs.Naming.{misnamed}
+use Rattle.session_play.specs.Naming.{target_fault}
 
 -- Changes of files, made at once by an actor under a token, and the texts of the folder that a rewrite among them was made for.
 pub record Commit : Type 0 where
@@ -32,13 +32,13 @@ abbrev pub wanted_of : List ℕ → ℕ → List Change → List (List ℕ) → 
 wanted_of actor token changes base = record { actor = actor; token = token; changes = changes; base = base }
 
 -- the first of these changes' files whose name is at fault, for an actor
-abbrev pub first_misnamed : List ℕ → List Change → Option (List ℕ × NameFault)
-first_misnamed actor [] = None
-first_misnamed actor (c ∷ cs) = option_or (option_map (λ fault. (name_of c, fault)) (misnamed actor (name_of c))) (first_misnamed actor cs)
+abbrev pub first_target_fault : List ℕ → List Change → Option (List ℕ × NameFault)
+first_target_fault actor [] = None
+first_target_fault actor (c ∷ cs) = option_or (option_map (λ fault. (name_of c, fault)) (target_fault actor (name_of c))) (first_target_fault actor cs)
 
 -- the name of no file of a commit is at fault
 abbrev pub IsWellNamed : Commit → Type 0
-IsWellNamed c = first_misnamed c.actor c.changes ≡ None
+IsWellNamed c = first_target_fault c.actor c.changes ≡ None
 
 -- an answer to a commit, as the commit gives it
 abbrev pub answer_as : Committed → Result Unit CommitError
@@ -57,7 +57,7 @@ IsCommitOf c es answer = IsCommit c.actor c.token c.changes c.base es answer
 -- Own events of a commit whose files are well named; or none, and the first name that is at fault.
 abbrev pub Attempted : Commit → Attempt → List Event → Type 0
 Attempted c (Made answer) es = IsWellNamed c × IsCommitOf c es (answer_as answer)
-Attempted c (Misnamed name fault) es = (first_misnamed c.actor c.changes ≡ Some (name, fault)) × (es ≡ [])
+Attempted c (Misnamed name fault) es = (first_target_fault c.actor c.changes ≡ Some (name, fault)) × (es ≡ [])
 
 -- a call failed in them, before the decision, after it, or where it isn't known which
 abbrev pub FailsIn : Commit → List Event → Type 0

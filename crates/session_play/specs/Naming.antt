@@ -8,5 +8,5 @@ use Rattle.session_play.specs.declared.naming.NameFault.{NameFault}
 use Rattle.session_play.specs.declared.naming.NameFault.TheVariants as fault
 
 -- what is wrong with such a name, for an actor
-abbrev pub misnamed : List ℕ → List ℕ → Option NameFault
-misnamed actor name = if is_short_name name then (if is_file_name actor name then None else Some fault.Reserved) else Some fault.Bad
+abbrev pub target_fault : List ℕ → List ℕ → Option NameFault
+target_fault actor name = if is_short_name name then (if is_file_name actor name then None else Some fault.Reserved) else Some fault.Bad

@@ -5,11 +5,11 @@ ghost use Rattle.host_port.specs.Ran.{Ran};
 ghost use Rattle.folder_change.specs.Changes.{is_rewrite};
 ghost use Rattle.folder_change.specs.Outcomes.{base_list};
 ghost use Rattle.commit_machine.specs.Names.{actor_limit};
-ghost use Rattle.session_play.specs.Committing.{wanted_of, first_misnamed, taken};
+ghost use Rattle.session_play.specs.Committing.{wanted_of, first_target_fault, taken};
 ghost use Rattle.session_play.specs.Cuts.{IsLoadCut};
 ghost use Rattle.session_play.specs.Play.{Play, Ask, Ret, Changes, Goes, Caused};
 
-use crate::{NameFault, Stop, misnamed};
+use crate::{NameFault, Stop, target_fault};
 use folder_change::{Change, change_name};
 use folder_commit::{CommitError, commit};
 use host_port::Host;
@@ -61,16 +61,16 @@ fn taken(answer: Result<(), CommitError>) -> Result<Attempt, Stop>
 }
 
 // The first of these changes' files whose name is at fault.
-fn first_misnamed(
+fn first_target_fault(
     alloc: Global,
     actor: &[u8],
     changes: &[Change],
 ) -> Result<Option<(Text, NameFault)>, Memory>
-    ensures { IfOk result (λ found. found ≡ first_misnamed actor.now changes.now) }
+    ensures { IfOk result (λ found. found ≡ first_target_fault actor.now changes.now) }
 {
     for change in changes {
         let name = change_name(change);
-        if let Some(fault) = misnamed(actor, name) {
+        if let Some(fault) = target_fault(actor, name) {
             return Ok(Some((Text::copy(alloc, name)?, fault)));
         }
     }
@@ -96,7 +96,7 @@ pub fn change<H: Host>(
     ensures cause { Caused (H.world.counts host.old) (H.world.counts host.new) result }
     ensures only_disk { IfErr result IsLoadCut }
 {
-    match first_misnamed(alloc, actor, changes) {
+    match first_target_fault(alloc, actor, changes) {
         Ok(Some((name, fault))) => Ok(Attempt::Misnamed { name, fault }),
         Ok(None) => taken(commit(alloc, actor, token, changes, base, host)),
         Err(Memory) => Err(Stop::Memory),

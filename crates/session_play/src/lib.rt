@@ -10,7 +10,7 @@ mod stop;
 
 pub use act::{Found, load, now, run_child, run_editor, say, try_load};
 pub use changing::{Attempt, Committed, change};
-pub use naming::{NameFault, misnamed};
+pub use naming::{NameFault, target_fault};
 pub use reader::Reader;
 pub use recovering::{RecoveryAnswer, recovery};
 pub use stop::Stop;

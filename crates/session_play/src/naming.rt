@@ -1,6 +1,6 @@
 // The names of files that a commit is to change.
 ghost use Rattle.std.specs.Prelude.{◌≡◌};
-ghost use Rattle.session_play.specs.Naming.{misnamed};
+ghost use Rattle.session_play.specs.Naming.{target_fault};
 
 use folder_commit::is_file_name;
 use mailx_vars::is_short_name;
@@ -15,8 +15,8 @@ pub enum NameFault {
 }
 
 /// What is wrong with the name of a file that a commit of this actor is to change; None if nothing is.
-pub fn misnamed(actor: &[u8], name: &[u8]) -> Option<NameFault>
-    ensures { result ≡ misnamed actor.now name.now }
+pub fn target_fault(actor: &[u8], name: &[u8]) -> Option<NameFault>
+    ensures { result ≡ target_fault actor.now name.now }
 {
     if !is_short_name(name) {
         Some(NameFault::Bad)

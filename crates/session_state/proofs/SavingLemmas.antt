@@ -12,7 +12,7 @@ use Rattle.session_play.specs.declared.stop.Stop.TheVariants as stop
 use Rattle.session_play.specs.Play.{Ret, Ask, Changes, Goes, Caused}
 use Rattle.session_play.proofs.PlayLemmas.{goes-then, goes-cut}
 use Rattle.std.proofs.lemmas.List.{append-nil}
-use Rattle.session_state.specs.declared.answers.Asked.{Asked}
+use Rattle.session_state.specs.declared.answers.AskResult.{AskResult}
 use Rattle.session_state.specs.declared.error.RunError.{RunError}
 use Rattle.session_state.specs.declared.error.RunError.TheVariants as error
 use Rattle.session_state.specs.declared.state.SessionState.{SessionState}
@@ -21,7 +21,7 @@ use Rattle.session_state.specs.Placing.{placed_changes}
 use Rattle.session_state.specs.Saving.{commit_of, after_commit, saved}
 use Rattle.session_state.specs.Answers.{after_asks, in_play, LineCaused}
 
-pub commit-follows : (s : SessionState) (changes : List Change) (answer : Result Attempt Stop) (r : Result Asked RunError)
+pub commit-follows : (s : SessionState) (changes : List Change) (answer : Result Attempt Stop) (r : Result AskResult RunError)
     → Follows s (map name_of changes) (placed_changes s.here changes) answer r → (es : List Event)
     → Goes {R = Attempt} (Ask (Changes (commit_of s changes)) Ret) es answer → Goes (saved s changes) es (in_play (after_asks s) r)
 commit-follows s changes (Ok a) (Ok asked) f es goes =
@@ -39,7 +39,7 @@ commit-follows s changes (Err cause) (Err e) f es goes =
     subst P (sym f) (goes-cut (Ask (Changes (commit_of s changes)) Ret) (λ a. Ret (after_commit s changes a)) cause es goes)
 
 pub commit-caused : (s : SessionState) (names : List (List ℕ)) (changes : List Change) (old new : Counts) (answer : Result Attempt Stop)
-    (r : Result Asked RunError) → Follows s names changes answer r → Caused old new answer → LineCaused old new r
+    (r : Result AskResult RunError) → Follows s names changes answer r → Caused old new answer → LineCaused old new r
 commit-caused s names changes old new answer (Ok asked) f caused = tt
 commit-caused s names changes old new answer (Err error.Memory) f caused = tt
 commit-caused s names changes old new (Ok a) (Err error.Output) never caused = absurd never

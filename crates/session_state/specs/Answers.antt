@@ -9,8 +9,8 @@ use Rattle.session_play.specs.Play.{Next, Go, Last}
 use Rattle.session_play.specs.Steps.{After, On, Over, Refused, Ended}
 use Rattle.read_commands.specs.declared.origin.Origin.{Origin}
 use Rattle.read_commands.specs.declared.origin.Origin.TheVariants.{Startup}
-use Rattle.session_state.specs.declared.answers.Asked.{Asked}
-use Rattle.session_state.specs.declared.answers.Asked.TheVariants as answered
+use Rattle.session_state.specs.declared.answers.AskResult.{AskResult}
+use Rattle.session_state.specs.declared.answers.AskResult.TheVariants as answered
 use Rattle.session_state.specs.declared.error.RunError.{RunError}
 use Rattle.session_state.specs.declared.error.RunError.TheVariants as error
 use Rattle.session_state.specs.declared.flow.Flow.{Flow}
@@ -20,7 +20,7 @@ use Rattle.session_state.specs.declared.status.Status.{Status}
 use Rattle.session_state.specs.Statuses.{IsLineEnd}
 
 -- what the answers to a command's asks leave
-abbrev pub after_asks : SessionState → Asked → After SessionState Status
+abbrev pub after_asks : SessionState → AskResult → After SessionState Status
 after_asks s answered.On = On s
 after_asks s answered.Over = Over s
 after_asks s (answered.Refused line) = Refused line
@@ -55,7 +55,7 @@ EndsByLine flow.Go = Unit {0}
 EndsByLine (flow.End s) = IsLineEnd s
 
 -- if an ask ended the run, it ends as a line ends it
-abbrev pub EndsByAsk : Asked → Type 0
+abbrev pub EndsByAsk : AskResult → Type 0
 EndsByAsk (answered.Ended s) = IsLineEnd s
 EndsByAsk a = Unit {0}
 
@@ -65,12 +65,12 @@ IsNoDiskFault error.Disk = ⊥
 IsNoDiskFault e = Unit {0}
 
 -- an ask doesn't end the run
-abbrev pub EndsNoRun : Asked → Type 0
+abbrev pub EndsNoRun : AskResult → Type 0
 EndsNoRun (answered.Ended e) = ⊥
 EndsNoRun a = Unit {0}
 
 -- asks don't end the run, and no fault of the disk cuts them off
-abbrev pub AsksGoOn : Result Asked RunError → Type 0
+abbrev pub AsksGoOn : Result AskResult RunError → Type 0
 AsksGoOn (Ok a) = EndsNoRun a
 AsksGoOn (Err e) = IsNoDiskFault e
 

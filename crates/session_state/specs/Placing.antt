@@ -42,6 +42,6 @@ abbrev pub placed_changes : List ℕ → List Change → List Change
 placed_changes here changes = map (placed_change here) changes
 
 -- how a file is said: as the first of these names that stands for it; as itself if none does
-abbrev pub said_as : List ℕ → List (List ℕ) → List ℕ → List ℕ
-said_as here [] file = file
-said_as here (name ∷ names) file = if bytes_eq (placed here name) file then name else said_as here names file
+abbrev pub typed_name : List ℕ → List (List ℕ) → List ℕ → List ℕ
+typed_name here [] file = file
+typed_name here (name ∷ names) file = if bytes_eq (placed here name) file then name else typed_name here names file

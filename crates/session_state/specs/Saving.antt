@@ -14,14 +14,14 @@ use Rattle.session_play.specs.declared.changing.Committed.TheVariants as committ
 use Rattle.session_play.specs.declared.naming.NameFault.{NameFault}
 use Rattle.session_play.specs.declared.naming.NameFault.TheVariants as fault
 use Rattle.session_play.specs.Committing.{Commit, wanted_of}
-use Rattle.session_play.specs.Naming.{misnamed}
+use Rattle.session_play.specs.Naming.{target_fault}
 use Rattle.session_play.specs.Play.{Act, Answer, Play, Ret, Ask, Changes}
 use Rattle.session_play.specs.Steps.{After, On, Refused, Ended}
 use Rattle.command_desk.specs.Faults.{bad_name, reserved_name, busy, changed_at, too_large, too_many_names}
 use Rattle.session_state.specs.declared.state.SessionState.{SessionState}
 use Rattle.session_state.specs.declared.status.Status.{Status}
 use Rattle.session_state.specs.declared.status.Status.TheVariants.{BadRecord}
-use Rattle.session_state.specs.Placing.{placed, placed_changes, said_as}
+use Rattle.session_state.specs.Placing.{placed, placed_changes, typed_name}
 
 -- the line of what is wrong with a name
 abbrev pub misnamed_line : List ℕ → NameFault → List ℕ
@@ -30,7 +30,7 @@ misnamed_line name fault.Reserved = reserved_name name
 
 -- the line of what is wrong with a name, for a file that a commit is to change
 abbrev pub name_fault : SessionState → List ℕ → Option (List ℕ)
-name_fault s name = option_map (misnamed_line name) (misnamed s.actor (placed s.here name))
+name_fault s name = option_map (misnamed_line name) (target_fault s.actor (placed s.here name))
 
 -- the line of the first of these changes whose file's name is at fault
 abbrev pub names_fault : SessionState → List Change → Option (List ℕ)
@@ -65,13 +65,13 @@ is_refused act answer = false
 -- that is too large.
 abbrev pub after_placed : SessionState → List (List ℕ) → List Change → Attempt → After SessionState Status
 after_placed s names changes (Made committed.Done) = On s
-after_placed s names changes (Made (committed.Busy file)) = Refused (busy (said_as s.here names file))
+after_placed s names changes (Made (committed.Busy file)) = Refused (busy (typed_name s.here names file))
 after_placed s names changes (Made committed.NotARecord) = Ended BadRecord
-after_placed s names changes (Made (committed.Changed file at)) = Refused (changed_at (said_as s.here names file) at)
+after_placed s names changes (Made (committed.Changed file at)) = Refused (changed_at (typed_name s.here names file) at)
 after_placed s names changes (Made (committed.TooLarge file length)) =
-    if is_changed changes file then Refused (too_large (said_as s.here names file)) else Ended BadRecord
+    if is_changed changes file then Refused (too_large (typed_name s.here names file)) else Ended BadRecord
 after_placed s names changes (Made (committed.TooManyNames count)) = Refused too_many_names
-after_placed s names changes (Misnamed file fault) = Refused (misnamed_line (said_as s.here names file) fault)
+after_placed s names changes (Misnamed file fault) = Refused (misnamed_line (typed_name s.here names file) fault)
 
 -- a commit of changes is said by their own names
 abbrev pub after_commit : SessionState → List Change → Attempt → After SessionState Status

@@ -10,7 +10,7 @@ use Rattle.command_desk.specs.declared.desk.Desk.{Desk}
 use Rattle.command_desk.specs.declared.effects.Effects.{Effects}
 use Rattle.command_desk.specs.Desks.{IsDesk}
 use Rattle.command_desk.specs.Effects.{effect}
-use Rattle.session_state.specs.declared.outcome.Outcome.{Outcome}
+use Rattle.session_state.specs.declared.outcome.SendOutcome.{SendOutcome}
 use Rattle.session_state.specs.declared.state.SessionState.{SessionState}
 use Rattle.compose_tilde.specs.declared.machine.Machine.{Machine}
 use Rattle.session_state.specs.declared.frames.WaitingLine.{WaitingLine}
@@ -62,7 +62,7 @@ abbrev pub with_file : SessionState → Option (List ℕ) → SessionState
 with_file s file = record s { file = file }
 
 -- the state in which drafts came to this
-abbrev pub with_outcome : SessionState → Outcome → SessionState
+abbrev pub with_outcome : SessionState → SendOutcome → SessionState
 with_outcome s outcome = record s { outcome = outcome }
 
 -- the draft is over
@@ -104,8 +104,8 @@ abbrev pub at_rest : SessionState → SessionState
 at_rest s = record s { desk = cut_to (open_before s.frames) s.desk; frames = []; count = 0 }
 
 -- the state at rest, unless a draft is open, after which the lines that wait go on
-abbrev pub rested : SessionState → SessionState
-rested s = if is_drafting s then s else at_rest s
+abbrev pub line_ended : SessionState → SessionState
+line_ended s = if is_drafting s then s else at_rest s
 
 -- the state after a command: what its effects don't name stays
 abbrev pub settled : SessionState → Effects → SessionState

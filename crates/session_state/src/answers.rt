@@ -14,7 +14,7 @@ use mail_text::Text;
 
 /// What the answers to a command's asks leave.
 #[derive(Drop)]
-pub enum Asked {
+pub enum AskResult {
     /// All was done.
     On,
     /// The command is over: nothing that follows is done.
@@ -39,15 +39,15 @@ pub fn say<H: Host>(host: &mut H, bytes: &[u8]) -> Result<(), RunError>
 }
 
 /// Prints bytes that a command asks for.
-pub fn say_line<H: Host>(host: &mut H, bytes: &Text) -> Result<Asked, RunError>
+pub fn say_line<H: Host>(host: &mut H, bytes: &Text) -> Result<AskResult, RunError>
     ensures ran { (s : SessionState) → Ran H.world host.old host.new
-        (λ es. Goes (Ask (Say bytes.now) (λ _. Ret (after_asks s Asked.On))) es (in_play (after_asks s) result)) }
+        (λ es. Goes (Ask (Say bytes.now) (λ _. Ret (after_asks s AskResult.On))) es (in_play (after_asks s) result)) }
     ensures done { IfOk result EndsByAsk }
     ensures goes_on { AsksGoOn result }
     ensures cause { LineCaused (H.world.counts host.old) (H.world.counts host.new) result }
 {
     match say(host, bytes.bytes()) {
-        Ok(()) => Ok(Asked::On),
+        Ok(()) => Ok(AskResult::On),
         Err(error) => Err(error),
     }
 }

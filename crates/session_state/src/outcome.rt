@@ -7,7 +7,7 @@ use crate::Status;
 
 /// What became of the drafts of a run so far.
 #[derive(Clone, Copy, Debug, PartialEq, Eq)]
-pub enum Outcome {
+pub enum SendOutcome {
     /// Each was sent, or dropped as it was to be.
     Fine,
     /// One wasn't sent: its names were refused, or the sender could not be run, or ended with this status. The last
@@ -30,28 +30,28 @@ fn or_earlier(status: Option<i32>, earlier: Option<i32>) -> Option<i32>
 }
 
 /// What became of them once a further one isn't sent, by a sender that ended with this status if one was run.
-pub fn not_sent(status: Option<i32>, outcome: Outcome) -> Outcome
+pub fn not_sent(status: Option<i32>, outcome: SendOutcome) -> SendOutcome
     ensures { result ≡ not_sent status outcome }
 {
     match outcome {
-        Outcome::Fine => Outcome::NotSent { status },
-        Outcome::NotSent { status: earlier } => Outcome::NotSent {
+        SendOutcome::Fine => SendOutcome::NotSent { status },
+        SendOutcome::NotSent { status: earlier } => SendOutcome::NotSent {
             status: or_earlier(status, earlier),
         },
-        Outcome::Refused => Outcome::Refused,
-        Outcome::Unrecorded => Outcome::Unrecorded,
+        SendOutcome::Refused => SendOutcome::Refused,
+        SendOutcome::Unrecorded => SendOutcome::Unrecorded,
     }
 }
 
 /// How a run ends that nothing else ends.
-pub fn status_of(outcome: Outcome) -> Status
+pub fn status_of(outcome: SendOutcome) -> Status
     ensures status { result ≡ status_of outcome }
     ensures line_end { IsLineEnd result }
     ensures end { IsEnd result }
 {
     match outcome {
-        Outcome::Fine => Status::Done,
-        Outcome::NotSent { status } => Status::NotSent { status },
-        Outcome::Refused | Outcome::Unrecorded => Status::Refused,
+        SendOutcome::Fine => Status::Done,
+        SendOutcome::NotSent { status } => Status::NotSent { status },
+        SendOutcome::Refused | SendOutcome::Unrecorded => Status::Refused,
     }
 }

@@ -1,7 +1,7 @@
 // What a name stands for: a name as it is said has another face, the file that the host is told.
 ghost use Rattle.std.specs.Prelude.{◌≡◌, IfOk, map};
 ghost use Rattle.folder_change.specs.Changes.{name_of};
-ghost use Rattle.session_state.specs.Placing.{edit_file, front_of, is_rooted, placed, placed_change, placed_changes, said_as};
+ghost use Rattle.session_state.specs.Placing.{edit_file, front_of, is_rooted, placed, placed_change, placed_changes, typed_name};
 
 use folder_change::{Change, change_name};
 use mail_text::{Items, Memory, Text};
@@ -124,13 +124,13 @@ pub(crate) fn place(alloc: Global, here: &[u8], changes: Items<Change>) -> Resul
 }
 
 /// How a file is said: as the first of these names that stands for it.
-pub(crate) fn said_as(
+pub(crate) fn typed_name(
     alloc: Global,
     here: &[u8],
     names: &[Text],
     file: Text,
 ) -> Result<Text, Memory>
-    ensures { IfOk result (λ said. said ≡ said_as here.now names.now file) }
+    ensures { IfOk result (λ said. said ≡ typed_name here.now names.now file) }
 {
     for name in names {
         let stands = placed(alloc, here, name.bytes())?;

@@ -5,7 +5,7 @@ ghost use Rattle.host_port.specs.Ran.{Ran};
 ghost use Rattle.session_play.specs.Play.{Play, Goes};
 ghost use Rattle.command_desk.specs.Faults.{busy, changed_at};
 ghost use Rattle.folder_change.specs.Changes.{name_of};
-ghost use Rattle.session_state.specs.Placing.{placed_changes, said_as};
+ghost use Rattle.session_state.specs.Placing.{placed_changes, typed_name};
 ghost use Rattle.session_state.specs.declared.state.SessionState.{SessionState};
 ghost use Rattle.session_state.specs.States.{IsState};
 ghost use Rattle.session_state.specs.Saving.{misnamed_line, name_fault, names_fault, is_changed, after_placed, saved};
@@ -13,14 +13,14 @@ ghost use Rattle.session_state.specs.Follows.{Follows};
 ghost use Rattle.session_play.specs.Cuts.{IsLoadCut};
 ghost use Rattle.session_state.specs.Answers.{after_asks, in_play, stop_of, LineCaused, EndsByAsk};
 
-use crate::placing::{Targets, place, placed, said_as};
-use crate::{Asked, RunError, SessionState, Status};
+use crate::placing::{Targets, place, placed, typed_name};
+use crate::{AskResult, RunError, SessionState, Status};
 use command_desk::line_of;
 use folder_change::{Change, change_name};
 use host_port::Host;
 use itoa::Buffer;
 use mail_text::{Items, Memory, Text};
-use session_play::{Attempt, Committed, NameFault, Stop, change, misnamed};
+use session_play::{Attempt, Committed, NameFault, Stop, change, target_fault};
 use std::alloc::Global;
 
 // The line of what is wrong with a name.
@@ -38,7 +38,7 @@ pub fn name_fault(alloc: Global, state: &SessionState, name: &[u8]) -> Result<Op
     ensures { IfOk result (λ fault. fault ≡ name_fault state.now name.now) }
 {
     let file = placed(alloc, state.here.bytes(), name)?;
-    match misnamed(state.actor.bytes(), file.bytes()) {
+    match target_fault(state.actor.bytes(), file.bytes()) {
         Some(fault) => Ok(Some(misnamed_line(alloc, name, fault)?)),
         None => Ok(None),
     }
@@ -86,42 +86,48 @@ fn too_large(
     targets: &Targets,
     file: Text,
     length: u64,
-) -> Result<Asked, Memory>
+) -> Result<AskResult, Memory>
     ensures means { IfOk result (λ asked. after_asks state.now asked
         ≡ after_placed state.now targets.now.names targets.now.changes (Attempt.Made (Committed.TooLarge file length))) }
     ensures end { IfOk result EndsByAsk }
 {
     if is_changed(targets.changes.items(), file.bytes()) {
-        let name = said_as(alloc, state.here.bytes(), targets.names.items(), file)?;
+        let name = typed_name(alloc, state.here.bytes(), targets.names.items(), file)?;
         refused(alloc, name.bytes(), b": too large")
     } else {
-        Ok(Asked::Ended(Status::BadRecord))
+        Ok(AskResult::Ended(Status::BadRecord))
     }
 }
 
 /// Refuses by a word and what is wrong with it.
-pub fn refused(alloc: Global, word: &[u8], fault: &[u8]) -> Result<Asked, Memory>
-    ensures { IfOk result (λ asked. asked ≡ Asked.Refused (with_feed (word.now ++ fault.now))) }
+pub fn refused(alloc: Global, word: &[u8], fault: &[u8]) -> Result<AskResult, Memory>
+    ensures { IfOk result (λ asked. asked ≡ AskResult.Refused (with_feed (word.now ++ fault.now))) }
 {
     let line = line_of(alloc, word, fault)?;
-    Ok(Asked::Refused { line })
+    Ok(AskResult::Refused { line })
 }
 
 // Refuses by a file that is busy.
-fn busy(alloc: Global, here: &[u8], names: &[Text], file: Text) -> Result<Asked, Memory>
-    ensures { IfOk result (λ asked. asked ≡ Asked.Refused (busy (said_as here.now names.now file))) }
+fn busy(alloc: Global, here: &[u8], names: &[Text], file: Text) -> Result<AskResult, Memory>
+    ensures { IfOk result (λ asked. asked ≡ AskResult.Refused (busy (typed_name here.now names.now file))) }
 {
-    let name = said_as(alloc, here, names, file)?;
+    let name = typed_name(alloc, here, names, file)?;
     refused(alloc, name.bytes(), b": busy")
 }
 
 // Refuses by a file that has changed, from this message on.
-fn changed(alloc: Global, here: &[u8], names: &[Text], file: Text, at: u64) -> Result<Asked, Memory>
-    ensures { IfOk result (λ asked. asked ≡ Asked.Refused (changed_at (said_as here.now names.now file) at)) }
+fn changed(
+    alloc: Global,
+    here: &[u8],
+    names: &[Text],
+    file: Text,
+    at: u64,
+) -> Result<AskResult, Memory>
+    ensures { IfOk result (λ asked. asked ≡ AskResult.Refused (changed_at (typed_name here.now names.now file) at)) }
 {
-    let name = said_as(alloc, here, names, file)?;
+    let name = typed_name(alloc, here, names, file)?;
     let line = changed_line(alloc, name.bytes(), at)?;
-    Ok(Asked::Refused { line })
+    Ok(AskResult::Refused { line })
 }
 
 // Refuses by a file whose name is at fault.
@@ -131,13 +137,13 @@ fn misnamed_file(
     names: &[Text],
     file: Text,
     fault: NameFault,
-) -> Result<Asked, Memory>
+) -> Result<AskResult, Memory>
     ensures { IfOk result
-        (λ asked. asked ≡ Asked.Refused (misnamed_line (said_as here.now names.now file) fault)) }
+        (λ asked. asked ≡ AskResult.Refused (misnamed_line (typed_name here.now names.now file) fault)) }
 {
-    let name = said_as(alloc, here, names, file)?;
+    let name = typed_name(alloc, here, names, file)?;
     let line = misnamed_line(alloc, name.bytes(), fault)?;
-    Ok(Asked::Refused { line })
+    Ok(AskResult::Refused { line })
 }
 
 // What the answer to a commit of these changes leaves.
@@ -146,7 +152,7 @@ fn after_commit(
     state: &SessionState,
     targets: &Targets,
     answer: Committed,
-) -> Result<Asked, Memory>
+) -> Result<AskResult, Memory>
     ensures means { IfOk result (λ asked. after_asks state.now asked
         ≡ after_placed state.now targets.now.names targets.now.changes (Attempt.Made answer)) }
     ensures end { IfOk result EndsByAsk }
@@ -154,9 +160,9 @@ fn after_commit(
     let here = state.here.bytes();
     let names = targets.names.items();
     match answer {
-        Committed::Done => Ok(Asked::On),
+        Committed::Done => Ok(AskResult::On),
         Committed::Busy { name } => busy(alloc, here, names, name),
-        Committed::NotARecord => Ok(Asked::Ended(Status::BadRecord)),
+        Committed::NotARecord => Ok(AskResult::Ended(Status::BadRecord)),
         Committed::Changed { name, at } => changed(alloc, here, names, name, at),
         Committed::TooLarge { name, length } => too_large(alloc, state, targets, name, length),
         Committed::TooManyNames { .. } => refused(alloc, b"too many names", b""),
@@ -169,7 +175,7 @@ fn after_attempt(
     state: &SessionState,
     targets: &Targets,
     attempt: Attempt,
-) -> Result<Asked, Memory>
+) -> Result<AskResult, Memory>
     ensures means { IfOk result (λ asked. after_asks state.now asked
         ≡ after_placed state.now targets.now.names targets.now.changes attempt) }
     ensures end { IfOk result EndsByAsk }
@@ -206,7 +212,7 @@ fn followed(
     state: &SessionState,
     targets: &Targets,
     answer: Result<Attempt, Stop>,
-) -> Result<Asked, RunError>
+) -> Result<AskResult, RunError>
     requires { IfErr answer IsLoadCut }
     ensures follows { Follows state.now targets.now.names targets.now.changes answer result }
     ensures end { IfOk result EndsByAsk }
@@ -223,7 +229,7 @@ fn commit_placed<H: Host>(
     state: &SessionState,
     host: &mut H,
     targets: &Targets,
-) -> Result<Asked, RunError>
+) -> Result<AskResult, RunError>
     requires state { IsState state.now }
     ensures ran { (changes : List Change) → targets.now.names ≡ map name_of changes
         → targets.now.changes ≡ placed_changes state.now.here changes → Ran H.world host.old host.new
@@ -250,7 +256,7 @@ pub fn commit<H: Host>(
     state: &SessionState,
     host: &mut H,
     changes: Items<Change>,
-) -> Result<Asked, RunError>
+) -> Result<AskResult, RunError>
     requires { IsState state.now }
     ensures ran { Ran H.world host.old host.new
         (λ es. Goes (saved state.now changes) es (in_play (after_asks state.now) result)) }

@@ -1,8 +1,8 @@
 // What a session knows between two lines.
 ghost use Rattle.std.specs.Prelude.{◌≡◌, [], None};
-ghost use Rattle.session_state.specs.States.{IsState, IsSession, at_rest, cut_to, rested, resumed};
+ghost use Rattle.session_state.specs.States.{IsState, IsSession, at_rest, cut_to, line_ended, resumed};
 
-use crate::{Frames, Outcome};
+use crate::{Frames, SendOutcome};
 use compose_tilde::Compose;
 use mail_text::Text;
 use mailx_macros::Macros;
@@ -34,7 +34,7 @@ pub struct SessionState {
     /// The file that this draft is recorded in, if it is one of its own.
     pub file: Option<Text>,
     /// What became of the drafts so far.
-    pub outcome: Outcome,
+    pub outcome: SendOutcome,
 }
 
 // Drops the definition that is under way, if one is.
@@ -72,7 +72,7 @@ pub fn drop_lines(alloc: Global, state: &mut SessionState)
 // more.
 fn clear(alloc: Global, state: &mut SessionState)
     requires { IsState state.old }
-    ensures rested { state.new ≡ at_rest state.old }
+    ensures line_ended { state.new ≡ at_rest state.old }
     ensures valid { IsState state.new }
 {
     drop_lines(alloc, state);
@@ -82,9 +82,9 @@ fn clear(alloc: Global, state: &mut SessionState)
 /// Drops the lines that wait, with what they left open, and counts no command any more, unless a draft is open, after
 /// which they go on.
 #[tactic(auto, using(crate::proofs::RestLemmas::rested_valid))]
-pub fn rest(alloc: Global, state: &mut SessionState)
+pub fn end_line(alloc: Global, state: &mut SessionState)
     requires { IsState state.old }
-    ensures rested { state.new ≡ rested state.old }
+    ensures line_ended { state.new ≡ line_ended state.old }
     ensures valid { IsSession state.new }
 {
     if state.draft.is_none() {

@@ -3,7 +3,7 @@ use Rattle.host_port.proofs.RanLemmas.{Ran-then, Ran-map}
 use Rattle.mailx_session.specs.Rounds.{typed, last, cut_short}
 use Rattle.session_state.specs.declared.state.SessionState.{SessionState}
 use Rattle.session_state.specs.States.{is_drafting}
-use Rattle.mailx_session.proofs.RoundLemmas.{released-inside, released-rested, does-nothing, goes-on}
+use Rattle.mailx_session.proofs.RoundLemmas.{released-inside, released-line_ended, does-nothing, goes-on}
 use Rattle.mailx_session.proofs.lines.input_line.Goals as goal
 
 pub returns-in-Ok-Go-clause-ran : goal.returns-in-Ok-Go-clause-ran
@@ -20,7 +20,7 @@ pub returns-in-Ok-Go-clause-escape : goal.returns-in-Ok-Go-clause-escape
 returns-in-Ok-Go-clause-escape g c = λ r.
     let same = c.in-Ok-Go.ensures.escape r in
     let held = c.waiting_lines.ensures.drafting (ap (λ (s : SessionState). is_drafting s) same ∙ released-inside c.args.state.now c.args.line.now r) in
-    released-rested c.args.state.now c.waiting_lines.new.state c.args.line.now r (does-nothing c.typed_line.new.state c.waiting_lines.new.state c.waiting_lines.result held ∙ same)
+    released-line_ended c.args.state.now c.waiting_lines.new.state c.args.line.now r (does-nothing c.typed_line.new.state c.waiting_lines.new.state c.waiting_lines.result held ∙ same)
 
 pub returns-in-Ok-Go-clause-escape_goes_on : goal.returns-in-Ok-Go-clause-escape_goes_on
 returns-in-Ok-Go-clause-escape_goes_on g c = λ r.
@@ -29,7 +29,7 @@ returns-in-Ok-Go-clause-escape_goes_on g c = λ r.
     (c.waiting_lines.ensures.drafting (ap (λ (s : SessionState). is_drafting s) same ∙ released-inside c.args.state.now c.args.line.now r))
 
 pub returns-in-Ok-End-clause-escape : goal.returns-in-Ok-End-clause-escape
-returns-in-Ok-End-clause-escape g c = λ r. released-rested c.args.state.now c.typed_line.new.state c.args.line.now r (c.in-Ok-End.ensures.escape r)
+returns-in-Ok-End-clause-escape g c = λ r. released-line_ended c.args.state.now c.typed_line.new.state c.args.line.now r (c.in-Ok-End.ensures.escape r)
 
 pub returns-in-Err-clause-escape : goal.returns-in-Err-clause-escape
-returns-in-Err-clause-escape g c = λ r. released-rested c.args.state.now c.typed_line.new.state c.args.line.now r (c.in-Err.ensures.escape r)
+returns-in-Err-clause-escape g c = λ r. released-line_ended c.args.state.now c.typed_line.new.state c.args.line.now r (c.in-Err.ensures.escape r)

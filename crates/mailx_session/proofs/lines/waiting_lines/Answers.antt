@@ -6,7 +6,7 @@ use Rattle.session_state.proofs.PendingLemmas.{less-then}
 use Rattle.session_asks.proofs.SourcingLemmas.{le-refl, weight-taken}
 use Rattle.mailx_session.proofs.RoundLemmas.{waits-none, waits-more, waits-ended, waits-cut, waits-over, waits-short, next-fewer, next-waits, none-next, at-most, below-most}
 use Rattle.session_state.proofs.RestLemmas.{no-both}
-use Rattle.session_state.specs.States.{is_drafting, rested}
+use Rattle.session_state.specs.States.{is_drafting, line_ended}
 use Rattle.session_state.specs.Bringing.{weight}
 use Rattle.std.specs.declared.result.Result.TheVariants.{Ok, Err}
 use Rattle.read_commands.specs.declared.origin.Origin.{Origin}
@@ -75,7 +75,7 @@ returns-in-Ok-None-clause-ran g c =
 pub returns-in-Ok-None-clause-nothing : goal.returns-in-Ok-None-clause-nothing
 returns-in-Ok-None-clause-nothing g c = λ none.
     let over = rw c.in-Ok-None.field-0-is at c.in-Ok-None.ensures.next in
-    (over.1 ∙ ap rested (c.lines.invariant.nothing none), refl)
+    (over.1 ∙ ap line_ended (c.lines.invariant.nothing none), refl)
 
 pub returns-in-Ok-None-clause-drafting : goal.returns-in-Ok-None-clause-drafting
 returns-in-Ok-None-clause-drafting g c = λ inside.

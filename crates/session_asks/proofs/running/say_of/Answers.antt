@@ -1,7 +1,7 @@
 use Rattle.host_port.proofs.RanLemmas.{Ran-none}
 use Rattle.session_play.specs.Play.{Ask, Ret, Say}
 use Rattle.session_state.specs.Answers.{after_asks}
-use Rattle.session_state.specs.declared.answers.Asked.TheVariants as asked
+use Rattle.session_state.specs.declared.answers.AskResult.TheVariants as asked
 use Rattle.session_state.proofs.MemoryLemmas.{out-of-memory}
 use Rattle.compose_tilde.specs.Answering.{said_of}
 use Rattle.session_asks.proofs.running.say_of.Goals as goal

@@ -2,9 +2,9 @@ use Rattle.std.proofs.Common.{◌≡◌, Some, None}
 use Rattle.std.specs.Prelude.{option_copied}
 use Rattle.folder_change.specs.Outcomes.{base_list}
 use Rattle.host_port.proofs.RanLemmas.{Ran-map, Ran-none}
-use Rattle.session_play.specs.Committing.{Commit, first_misnamed, wanted_of}
+use Rattle.session_play.specs.Committing.{Commit, first_target_fault, wanted_of}
 use Rattle.session_play.specs.Play.{Ask, Ret, Changes}
-use Rattle.session_play.proofs.CommitLemmas.{commit-goes, misnamed-goes, commit-caused, commit-cut}
+use Rattle.session_play.proofs.CommitLemmas.{commit-goes, target_fault-goes, commit-caused, commit-cut}
 use Rattle.session_play.proofs.NamingLemmas.{named-files}
 use Rattle.session_play.proofs.PlayLemmas.{at-memory}
 use Rattle.session_play.proofs.changing.change.Goals as goal
@@ -15,13 +15,13 @@ commit-requires-clause-files g c = named-files c.args.actor.now c.args.changes.n
 pub returns-in-Ok-Some-clause-ran : goal.returns-in-Ok-Some-clause-ran
 returns-in-Ok-Some-clause-ran g c =
     let wanted : Commit = wanted_of c.args.actor.now c.args.token c.args.changes.now (base_list (option_copied c.args.base)) in
-    let is : first_misnamed c.args.actor.now c.args.changes.now ≡ Some (c.in-Ok-Some.name, c.in-Ok-Some.fault) = cc (c.in-Ok-Some.ensures, c.in-Ok-Some.field-0-is) in
-    Ran-none (misnamed-goes wanted c.in-Ok-Some.name c.in-Ok-Some.fault is)
+    let is : first_target_fault c.args.actor.now c.args.changes.now ≡ Some (c.in-Ok-Some.name, c.in-Ok-Some.fault) = cc (c.in-Ok-Some.ensures, c.in-Ok-Some.field-0-is) in
+    Ran-none (target_fault-goes wanted c.in-Ok-Some.name c.in-Ok-Some.fault is)
 
 pub returns-in-Ok-None-clause-ran : goal.returns-in-Ok-None-clause-ran
 returns-in-Ok-None-clause-ran g c =
     let wanted : Commit = wanted_of c.args.actor.now c.args.token c.args.changes.now (base_list (option_copied c.args.base)) in
-    let well : first_misnamed c.args.actor.now c.args.changes.now ≡ None = cc (c.in-Ok-None.ensures, c.in-Ok-None.field-0-is) in
+    let well : first_target_fault c.args.actor.now c.args.changes.now ≡ None = cc (c.in-Ok-None.ensures, c.in-Ok-None.field-0-is) in
     rw c.taken.ensures (Ran-map (λ es h. commit-goes wanted well c.commit.result es h) c.commit.ensures.ran)
 
 pub returns-in-Ok-None-clause-cause : goal.returns-in-Ok-None-clause-cause

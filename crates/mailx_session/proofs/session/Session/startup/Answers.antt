@@ -6,7 +6,7 @@ use Rattle.mailx_session.proofs.session.Session.startup.Goals as goal
 pub returns-clause-safe : goal.returns-clause-safe
 returns-clause-safe g c =
     let fits : c.self.inside.state.token < 2 ^ 64 = omega arith in
-    rw (c.self.view_is, sym c.rest.ensures.rested) at
+    rw (c.self.view_is, sym c.end_line.ensures.line_ended) at
     (startup-safe g.H.Host.world c.args.host.now c.startup_file-result.new.host c.self.inside.state fits c.args.name.now _ c.startup_file-result.ensures.ran)
 
 pub returns-clause-no_disk : goal.returns-clause-no_disk
