@@ -41,6 +41,40 @@ same() {
   fi
 }
 
+# tick: waits until what changes now has a later time than what changed before. Systems stamp files by a clock that moves in steps.
+tick() {
+  local before
+  echo >"$room/.tick"
+  before=$(stat -c %z "$room/.tick")
+  until [ "$(stat -c %z "$room/.tick")" != "$before" ]; do echo >"$room/.tick"; done
+}
+
+# look_at_clock: the hundredths of a second since the machine began, in `now`
+look_at_clock() {
+  read -r now _ </proc/uptime
+  now=${now/./}
+}
+
+# lasts LEAST MOST COMMAND..: in `lasted`, whether the command is in time: it takes these milliseconds at least, and in one of ten tries these at most, since
+# the machine may be slow for a while, or held up by others
+lasts() {
+  local least=$1 most=$2 k began now
+  shift 2
+  for k in {1..10}; do
+    look_at_clock
+    began=$now
+    "$@"
+    look_at_clock
+    lasted=$(((now - began) * 10))
+    if [ $((lasted + 10)) -lt "$least" ]; then break; fi
+    if [ "$lasted" -le "$most" ]; then
+      lasted="in time"
+      return
+    fi
+  done
+  lasted="after $lasted ms"
+}
+
 # letter SUBJECT: a message
 letter() {
   printf 'From cat@z Wed Jan  3 12:00:00 2024\nFrom: cat@z\nSubject: %s\n\ntext of %s\n\n' "$1" "$1"
@@ -72,7 +106,7 @@ apart() {
 mailx() {
   # A shell says of a child that it was killed.
   {
-    (cd "$where" && exec timeout -k 5 30 env -i PATH="$PATH" HOME="$home" MAIL="$mail" "${variables[@]}" "${under[@]}" "$program" "$@") <in >out 2>errors
+    (cd "$where" && exec timeout -k 5 300 env -i PATH="$PATH" HOME="$home" MAIL="$mail" "${variables[@]}" "${under[@]}" "$program" "$@") <in >out 2>errors
     status=$?
   } 2>/dev/null
   said=$(cat out)
