@@ -13,11 +13,14 @@ trimmed() {
   sed 's/ *$//'
 }
 
-# look WHAT: the screen is as wanted, at the latest after five seconds
+# How many seconds a screen is waited for
+patience=60
+
+# look WHAT: the screen is as wanted, at the latest after that time
 look() {
-  local k found lines
+  local found lines end=$((SECONDS + patience))
   lines=$(printf %s "$wanted" | trimmed)
-  for ((k = 0; k < 250; k++)); do
+  while [ "$SECONDS" -le "$end" ]; do
     found=$("${tmux[@]}" capture-pane -p -t mail | trimmed)
     [ "$found" != "$lines" ] || { passed=$((passed + 1)); return; }
     sleep 0.02
