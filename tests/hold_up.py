@@ -214,7 +214,7 @@ def by_agent(operation, pid, where):
 
 
 def how_ended(agent, what, allowed):
-    said = agent.communicate(timeout=60)[1]
+    said = agent.communicate(timeout=600)[1]
     if agent.returncode not in allowed:
         differs(what, allowed, (agent.returncode, said))
     return agent.returncode
