@@ -123,7 +123,7 @@ import email.policy
 with open("message", "rb") as file:
     message = email.message_from_binary_file(file, policy=email.policy.default)
 age = datetime.datetime.now(datetime.timezone.utc) - message["Date"].datetime
-print("now" if abs(age.total_seconds()) < 60 else message["Date"])
+print("now" if abs(age.total_seconds()) < 3600 else message["Date"])
 for name in message.keys():
     value = message[name]
     if name in ("To", "Cc", "From"):
