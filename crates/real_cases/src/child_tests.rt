@@ -211,15 +211,22 @@ fn what_cannot_be_passed_fails(rt: HostRuntime) -> Result<(), Fail> {
     Ok(())
 }
 
+// The seconds since 1970, as another program tells them, or 0.
+fn told_seconds(alloc: Global, host: &mut RealHost<HostRuntime>) -> u64 {
+    match run(alloc, host, &["date", "+%s"], b"") {
+        Ok(answer) => read_number(answer.output.bytes().trim_ascii_end()).unwrap_or(0),
+        Err(_) => 0,
+    }
+}
+
+// However slow the machine is, the host's time is between those that are told before and behind it.
 #[test]
 fn the_time_is_the_system_s(rt: HostRuntime) -> Result<(), Fail> {
     let alloc = rt.alloc();
     let mut host = RealHost::new(rt, alloc, b"time", Duration::ZERO)?;
-    let seconds = match run(alloc, &mut host, &["date", "+%s"], b"") {
-        Ok(answer) => read_number(answer.output.bytes().trim_ascii_end()).unwrap_or(0),
-        Err(_) => 0,
-    };
+    let before = told_seconds(alloc, &mut host);
     let now = u64::try_from(host.now()).unwrap_or(0);
-    assert!(rt; seconds > 1_700_000_000 && now.abs_diff(seconds) <= 5);
+    let after = told_seconds(alloc, &mut host);
+    assert!(rt; before > 1_700_000_000 && before <= now && now <= after);
     Ok(())
 }
