@@ -14,7 +14,7 @@ use Rattle.session_play.specs.Play.{Play, Ask, Child, Next, Go, Goes, bind}
 use Rattle.sender_port.specs.declared.error.NamesFault.{NamesFault}
 use Rattle.sender_port.specs.Names.{names_fault}
 use Rattle.send_rules.specs.Lines.{names_line, names_refused, sender_ended}
-use Rattle.draft_sending.specs.declared.sending.Letter.{Letter}
+use Rattle.draft_sending.specs.declared.sending.DatedDraft.{DatedDraft}
 use Rattle.session_state.specs.declared.outcome.SendOutcome.{SendOutcome}
 use Rattle.session_state.specs.declared.state.SessionState.{SessionState}
 use Rattle.session_state.specs.Outcomes.{not_sent}
@@ -27,7 +27,7 @@ use Rattle.command_desk.specs.Answers.{OrFault}
 use Rattle.draft_text.specs.Texts.{message_text}
 use Rattle.sender_port.specs.Sending.{program_of, sender_args, sent}
 use Rattle.session_state.specs.Saving.{saved}
-use Rattle.draft_sending.specs.Sending.{after_record, after_sender, buried, burying, done, ended, ended_draft, ended_with, given_up, lost, lost_now, posting, quit_draft, quitted, recording, sending, text_of, unsent, unsent_by}
+use Rattle.draft_sending.specs.Sending.{after_record, after_sender, after_dead_letter, burying, done, ended, ended_draft, ended_with, given_up, lost, lost_now, posting, quit_draft, quitted, recording, sending, text_of, unsent, unsent_by}
 
 -- names that no line refuses can be sent to
 pub unrefused : (names : List (List ℕ)) → names_refused names ≡ None → names_fault names ≡ None
@@ -82,23 +82,23 @@ quit-empty s m d is none empty =
     subst P (sym (quit-some s m is ∙ cond-true _ _ _ empty)) (refl, inl (subst S (sym none) refl))
 
 -- what is left once a dead letter, a record or the message was handed on
-pub lost-left : (s : SessionState) (letter : Letter) (c : Change) (changes : List Change) (name : List ℕ) → dead s.desk (text_of s letter) ≡ Some c → changes ≡ c ∷ [] → name ≡ name_of c
-    → bind (saved s changes) (buried s name) ≡ lost s letter
+pub lost-left : (s : SessionState) (letter : DatedDraft) (c : Change) (changes : List Change) (name : List ℕ) → dead s.desk (text_of s letter) ≡ Some c → changes ≡ c ∷ [] → name ≡ name_of c
+    → bind (saved s changes) (after_dead_letter s name) ≡ lost s letter
 lost-left s letter c changes name is one named =
-    let N : List ℕ → Type 0 = λ n. bind (saved s (c ∷ [])) (buried s n) ≡ burying s (Some c) in
-    let C : List Change → Type 0 = λ cs. bind (saved s cs) (buried s name) ≡ burying s (Some c) in
+    let N : List ℕ → Type 0 = λ n. bind (saved s (c ∷ [])) (after_dead_letter s n) ≡ burying s (Some c) in
+    let C : List Change → Type 0 = λ cs. bind (saved s cs) (after_dead_letter s name) ≡ burying s (Some c) in
     subst C (sym one) (subst N (sym named) refl) ∙ sym (ap (burying s) is)
 
-pub posting-left : (s : SessionState) (file : Option (List ℕ)) (letter : Letter) (names : List (List ℕ)) (r : OrFault (Option Change)) → names_refused names ≡ None
+pub posting-left : (s : SessionState) (file : Option (List ℕ)) (letter : DatedDraft) (names : List (List ℕ)) (r : OrFault (Option Change)) → names_refused names ≡ None
     → recorded s.desk (text_of s letter) s.by_recipient file names ≡ r → recording s letter names r ≡ posting s file letter names (names_refused names)
 posting-left s file letter names r fine is = sym (ap (recording s letter names) is) ∙ sym (ap (posting s file letter names) fine)
 
-pub recording-left : (s : SessionState) (letter : Letter) (names : List (List ℕ)) (c : Change) (changes : List Change) → changes ≡ c ∷ []
+pub recording-left : (s : SessionState) (letter : DatedDraft) (names : List (List ℕ)) (c : Change) (changes : List Change) → changes ≡ c ∷ []
     → bind (saved s changes) (after_record s letter names) ≡ recording s letter names (Ok (Some c))
 recording-left s letter names c changes one =
     let C : List Change → Type 0 = λ cs. bind (saved s cs) (after_record s letter names) ≡ recording s letter names (Ok (Some c)) in subst C (sym one) refl
 
-pub sending-left : (s : SessionState) (letter : Letter) (names to : List (List ℕ)) (message : List ℕ) → to ≡ names → message ≡ message_text letter.draft letter.moment
+pub sending-left : (s : SessionState) (letter : DatedDraft) (names to : List (List ℕ)) (message : List ℕ) → to ≡ names → message ≡ message_text letter.draft letter.moment
     → ◌≡◌ {A = Play (Next SessionState Status)} (Ask (Child (program_of s.desk.vars) (sender_args to) message) (λ a. after_sender s letter (sent a))) (sending s letter names)
 sending-left s letter names to message same is =
     let M : List ℕ → List (List ℕ) → Type 0 =
@@ -106,7 +106,7 @@ sending-left s letter names to message same is =
     subst (λ (m : List ℕ). M m to) (sym is) (subst (λ (n : List (List ℕ)). M (message_text letter.draft letter.moment) n) (sym same) refl)
 
 -- a sender's status, where it is another number
-pub ended-as : (s : SessionState) (letter : Letter) (n k : ℤ) (output : List ℕ) (outcome : SendOutcome) (line : List ℕ) (P : Play (Next SessionState Status) → Type 0) → k ≡ n
+pub ended-as : (s : SessionState) (letter : DatedDraft) (n k : ℤ) (output : List ℕ) (outcome : SendOutcome) (line : List ℕ) (P : Play (Next SessionState Status) → Type 0) → k ≡ n
     → outcome ≡ not_sent (Some k) s.outcome → line ≡ output ++ sender_ended k → P (unsent (with_outcome s outcome) letter line) → P (ended_with s letter n output)
 ended-as s letter n k output outcome line P same came is holds =
     let N : ℤ → Type 0 = λ x. P (ended_with s letter x output) in

@@ -17,7 +17,7 @@ use Rattle.activities.specs.Acting.{Reply, Said, Committed, Sent, Time, Leads}
 use Rattle.draft_sending.specs.declared.sending.Ending.{Ending}
 use Rattle.draft_sending.specs.declared.sending.Stage.{Stage}
 use Rattle.draft_sending.specs.declared.sending.Stage.TheVariants as stage
-use Rattle.draft_sending.specs.Sending.{addressing, after_record, after_sender, buried, letter_of, lost}
+use Rattle.draft_sending.specs.Sending.{addressing, after_record, after_sender, after_dead_letter, letter_of, lost}
 
 -- the end of a draft that begins so; no moment is known yet
 abbrev pub begun : Stage → Draft → Option (List ℕ) → Ending
@@ -36,7 +36,7 @@ follows_at stage.GivingUp e s (Time m) = lost s (letter_of e.letter.draft m)
 follows_at stage.Recording e s (Committed after) = after_record s e.letter e.names after
 follows_at stage.Sending e s (Sent result) = after_sender s e.letter result
 follows_at stage.Keeping e s Said = lost s e.letter
-follows_at stage.Burying e s (Committed after) = buried s e.dead after
+follows_at stage.Saving e s (Committed after) = after_dead_letter s e.dead after
 follows_at st e s reply = Ret (Go s)
 
 abbrev pub follows : Ending → SessionState → Reply → Play (Next SessionState Status)
@@ -49,7 +49,7 @@ TakesAt stage.GivingUp e (answer.Time m) = IsPrintable m
 TakesAt stage.Recording e (answer.Committed asked) = EndsByAsk asked × IsPrintable e.letter.moment × (names_refused e.names ≡ None)
 TakesAt stage.Sending e (answer.Sent result) = IsPrintable e.letter.moment
 TakesAt stage.Keeping e answer.Said = IsPrintable e.letter.moment
-TakesAt stage.Burying e (answer.Committed asked) = EndsByAsk asked
+TakesAt stage.Saving e (answer.Committed asked) = EndsByAsk asked
 TakesAt stage.Telling e answer.Said = Unit {0}
 TakesAt st e a = ⊥
 
@@ -63,7 +63,7 @@ most_at stage.GivingUp = 2
 most_at stage.Recording = 4
 most_at stage.Sending = 3
 most_at stage.Keeping = 2
-most_at stage.Burying = 1
+most_at stage.Saving = 1
 most_at stage.Telling = 0
 
 abbrev pub most : Ending → ℕ

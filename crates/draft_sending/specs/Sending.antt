@@ -22,7 +22,7 @@ use Rattle.send_rules.specs.Addressing.{addressees, addressed}
 use Rattle.send_rules.specs.Recording.{dead, recorded}
 use Rattle.send_rules.specs.Lines.{names_refused, sender_ended, sender_not_run, too_many_recipients}
 use Rattle.session_state.specs.declared.outcome.SendOutcome.TheVariants as outcome
-use Rattle.draft_sending.specs.declared.sending.Letter.{Letter}
+use Rattle.draft_sending.specs.declared.sending.DatedDraft.{DatedDraft}
 use Rattle.session_state.specs.declared.state.SessionState.{SessionState}
 use Rattle.session_state.specs.declared.status.Status.{Status}
 use Rattle.session_state.specs.States.{with_outcome, without_draft}
@@ -30,11 +30,11 @@ use Rattle.session_state.specs.Outcomes.{not_sent}
 use Rattle.session_state.specs.Saving.{saved}
 
 -- a draft, and the moment at which it was done
-abbrev pub letter_of : Draft → Moment → Letter
+abbrev pub letter_of : Draft → Moment → DatedDraft
 letter_of draft m = record { draft = draft; moment = m }
 
 -- its text in a mailbox, from the user
-abbrev pub text_of : SessionState → Letter → List ℕ
+abbrev pub text_of : SessionState → DatedDraft → List ℕ
 text_of s letter = mbox_text letter.draft s.desk.places.user letter.moment
 
 -- the state once a draft wasn't sent, by a sender with this status if one was run; once a record or a dead letter was refused; and once the word
@@ -57,19 +57,19 @@ abbrev pub saved_one : SessionState → Change → Play (After SessionState Stat
 saved_one s c = saved s (c ∷ [])
 
 -- what follows the commit of a dead letter: it is printed, or the line that refuses it, and then the text is dropped
-abbrev pub buried : SessionState → List ℕ → After SessionState Status → Play (Next SessionState Status)
-buried s name (On t) = refused t (dead_reply name)
-buried s name (Over t) = refused t (dead_reply name)
-buried s name (Refused line) = refused (refused_by s) line
-buried s name (Ended e) = Ret (Last e)
+abbrev pub after_dead_letter : SessionState → List ℕ → After SessionState Status → Play (Next SessionState Status)
+after_dead_letter s name (On t) = refused t (dead_reply name)
+after_dead_letter s name (Over t) = refused t (dead_reply name)
+after_dead_letter s name (Refused line) = refused (refused_by s) line
+after_dead_letter s name (Ended e) = Ret (Last e)
 
 -- a dead letter is committed, if there is one
 abbrev pub burying : SessionState → Option Change → Play (Next SessionState Status)
 burying s None = Ret (Go s)
-burying s (Some c) = bind (saved_one s c) (buried s (name_of c))
+burying s (Some c) = bind (saved_one s c) (after_dead_letter s (name_of c))
 
 -- the text of a draft goes to the dead letters
-abbrev pub lost : SessionState → Letter → Play (Next SessionState Status)
+abbrev pub lost : SessionState → DatedDraft → Play (Next SessionState Status)
 lost s letter = burying s (dead s.desk (text_of s letter))
 
 -- the text of a draft goes there, as of the moment at which it is given up
@@ -77,40 +77,40 @@ abbrev pub lost_now : SessionState → Draft → Play (Next SessionState Status)
 lost_now s draft = Ask (Now s.desk.places.tz) (λ m. lost s (letter_of draft m))
 
 -- this is printed, and the text goes there
-abbrev pub unsent : SessionState → Letter → List ℕ → Play (Next SessionState Status)
+abbrev pub unsent : SessionState → DatedDraft → List ℕ → Play (Next SessionState Status)
 unsent s letter line = Ask (Say line) (λ _. lost s letter)
 
 -- what follows the sender: its output is printed, and if it didn't end with 0 or could not be run, that too, and the text is kept
-abbrev pub ended_with : SessionState → Letter → ℤ → List ℕ → Play (Next SessionState Status)
+abbrev pub ended_with : SessionState → DatedDraft → ℤ → List ℕ → Play (Next SessionState Status)
 ended_with s letter n output = unsent (unsent_by (Some n) s) letter (output ++ sender_ended n)
 
-abbrev pub not_run : SessionState → Letter → Play (Next SessionState Status)
+abbrev pub not_run : SessionState → DatedDraft → Play (Next SessionState Status)
 not_run s letter = unsent (unsent_by None s) letter sender_not_run
 
-abbrev pub after_sender : SessionState → Letter → Result (List ℕ) SendError → Play (Next SessionState Status)
+abbrev pub after_sender : SessionState → DatedDraft → Result (List ℕ) SendError → Play (Next SessionState Status)
 after_sender s letter (Ok output) = refused s output
 after_sender s letter (Err (send.Refused n output)) = ended_with s letter n output
 after_sender s letter (Err e) = not_run s letter
 
 -- the message is given to the sender
-abbrev pub sending : SessionState → Letter → List (List ℕ) → Play (Next SessionState Status)
+abbrev pub sending : SessionState → DatedDraft → List (List ℕ) → Play (Next SessionState Status)
 sending s letter names = Ask (Child (program_of s.desk.vars) (sender_args names) (message_text letter.draft letter.moment)) (λ a. after_sender s letter (sent a))
 
 -- what follows the commit of a record: the message is sent, unless the record was refused
-abbrev pub after_record : SessionState → Letter → List (List ℕ) → After SessionState Status → Play (Next SessionState Status)
+abbrev pub after_record : SessionState → DatedDraft → List (List ℕ) → After SessionState Status → Play (Next SessionState Status)
 after_record s letter names (On t) = sending t letter names
 after_record s letter names (Over t) = sending t letter names
 after_record s letter names (Refused line) = unsent (refused_by s) letter line
 after_record s letter names (Ended e) = Ret (Last e)
 
 -- the message is recorded first, where it is to be
-abbrev pub recording : SessionState → Letter → List (List ℕ) → OrFault (Option Change) → Play (Next SessionState Status)
+abbrev pub recording : SessionState → DatedDraft → List (List ℕ) → OrFault (Option Change) → Play (Next SessionState Status)
 recording s letter names (Err line) = unsent (unrecorded s) letter line
 recording s letter names (Ok None) = sending s letter names
 recording s letter names (Ok (Some c)) = bind (saved_one s c) (after_record s letter names)
 
 -- names that can't be sent to are printed, and the text is kept
-abbrev pub posting : SessionState → Option (List ℕ) → Letter → List (List ℕ) → Option (List ℕ) → Play (Next SessionState Status)
+abbrev pub posting : SessionState → Option (List ℕ) → DatedDraft → List (List ℕ) → Option (List ℕ) → Play (Next SessionState Status)
 posting s file letter names (Some line) = unsent (unsent_by None s) letter line
 posting s file letter names None = recording s letter names (recorded s.desk (text_of s letter) s.by_recipient file names)
 

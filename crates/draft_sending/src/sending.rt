@@ -4,7 +4,7 @@
 //        \          |           |          ^
 //         +---------+-----> Keeping        |
 //                               v          |
-//     GivingUp ------------> Burying ------+
+//     GivingUp ------------> Saving -------+
 // A stage says which answer is waited for; what follows it is one word of specs/Sending, and specs/Ending says which.
 ghost use Rattle.std.specs.Prelude.{◌≡◌, ◌++◌, ◌∷◌, ◌<◌, [], ℕ, None, IfOk};
 ghost use Rattle.host_port.specs.Ran.{Ran};
@@ -18,7 +18,7 @@ ghost use Rattle.send_rules.specs.Recording.{dead, recorded};
 ghost use Rattle.session_state.specs.declared.state.SessionState.{SessionState};
 ghost use Rattle.session_state.specs.States.{IsState, KeepsButDraft, KeepsButOutcome, with_outcome};
 ghost use Rattle.session_state.specs.Answers.{after_asks, in_play, next_of, LineCaused, EndsByAsk, EndsByLine};
-ghost use Rattle.draft_sending.specs.Sending.{addressing, after_record, after_sender, buried, ended_draft, letter_of, lost, not_run, posting, quit_draft, recording, sending, text_of, unsent};
+ghost use Rattle.draft_sending.specs.Sending.{addressing, after_record, after_sender, after_dead_letter, ended_draft, letter_of, lost, not_run, posting, quit_draft, recording, sending, text_of, unsent};
 ghost use Rattle.draft_sending.specs.Ending.{begun, most, IsDated, LeadsTo};
 
 use activities::{Activity, Answer, Call, Turn, drive};
@@ -40,7 +40,7 @@ use std::mem;
 
 /// A draft, and the moment at which it was done.
 #[derive(Drop)]
-pub(crate) struct Letter {
+pub(crate) struct DatedDraft {
     pub draft: Draft,
     pub moment: Moment,
 }
@@ -59,7 +59,7 @@ pub(crate) enum Stage {
     /// To print what stands in the way; then the text is kept.
     Keeping,
     /// The dead letter.
-    Burying,
+    Saving,
     /// To print the last line.
     Telling,
 }
@@ -69,7 +69,7 @@ pub(crate) enum Stage {
 pub(crate) struct Ending {
     pub stage: Stage,
     /// The draft; its moment counts once it is known.
-    pub letter: Letter,
+    pub letter: DatedDraft,
     /// The file that it is recorded in, if it is one of its own.
     pub file: Option<Text>,
     /// Whom it is sent to, until it is.
@@ -79,7 +79,7 @@ pub(crate) struct Ending {
 }
 
 // The text of a letter in a mailbox, from the user.
-fn text_of(alloc: Global, state: &SessionState, letter: &Letter) -> Result<Text, Memory>
+fn text_of(alloc: Global, state: &SessionState, letter: &DatedDraft) -> Result<Text, Memory>
     requires { IsPrintable letter.now.moment }
     ensures { IfOk result (λ text. text ≡ text_of state.now letter.now) }
 {
@@ -116,7 +116,7 @@ impl Ending {
         };
         Ending {
             stage,
-            letter: Letter { draft, moment },
+            letter: DatedDraft { draft, moment },
             file,
             names: Items::new(alloc),
             dead: Text::new(alloc),
@@ -124,7 +124,7 @@ impl Ending {
     }
 
     // Prints the last line.
-    fn tell(&mut self, line: Text) -> Turn
+    fn say_and_end(&mut self, line: Text) -> Turn
         requires { 0 < most self.old }
         ensures { (s : SessionState) → LeadsTo (most self.old) (refused s line) self.new s result }
     {
@@ -133,7 +133,7 @@ impl Ending {
     }
 
     // Prints why the draft isn't sent, with what became of it, and then keeps its text.
-    fn keep(&mut self, state: &mut SessionState, outcome: SendOutcome, line: Text) -> Turn
+    fn keep_unsent(&mut self, state: &mut SessionState, outcome: SendOutcome, line: Text) -> Turn
         requires { IsDated 2 self.old }
         ensures leads { LeadsTo (most self.old)
             (unsent (with_outcome state.old outcome) self.old.letter line) self.new state.new result }
@@ -145,7 +145,7 @@ impl Ending {
     }
 
     // Keeps the text as a dead letter, if one is kept.
-    fn lose(&mut self, alloc: Global, state: &SessionState) -> Result<Turn, Memory>
+    fn save_dead_letter(&mut self, alloc: Global, state: &SessionState) -> Result<Turn, Memory>
         requires { IsDated 1 self.old }
         ensures { IfOk result (LeadsTo (most self.old) (lost state.now self.old.letter) self.new state.now) }
     {
@@ -155,7 +155,7 @@ impl Ending {
                 let name = Text::copy(alloc, change_name(&change))?;
                 let changes = one(alloc, change)?;
                 self.dead = name;
-                self.stage = Stage::Burying;
+                self.stage = Stage::Saving;
                 Ok(Turn::Ask(Call::Commit(changes)))
             }
             None => Ok(Turn::End(Flow::Go)),
@@ -163,7 +163,7 @@ impl Ending {
     }
 
     // What follows the commit of the dead letter.
-    fn buried(
+    fn after_dead_letter(
         &mut self,
         alloc: Global,
         state: &mut SessionState,
@@ -172,17 +172,18 @@ impl Ending {
         requires rank { 0 < most self.old }
         requires end { EndsByAsk asked }
         ensures leads { IfOk result
-            (LeadsTo (most self.old) (buried state.old self.old.dead (after_asks state.old asked)) self.new state.new) }
+            (LeadsTo (most self.old) (after_dead_letter state.old self.old.dead (after_asks state.old asked))
+            self.new state.new) }
         ensures keeps { KeepsButOutcome state.old state.new }
     {
         match asked {
             AskResult::On | AskResult::Over => {
                 let line = receipt(alloc, self.dead.bytes(), b"Dead", 1)?;
-                Ok(self.tell(line))
+                Ok(self.say_and_end(line))
             }
             AskResult::Refused { line } => {
                 state.outcome = SendOutcome::Refused;
-                Ok(self.tell(line))
+                Ok(self.say_and_end(line))
             }
             AskResult::Ended(status) => Ok(Turn::End(Flow::End(status))),
         }
@@ -208,7 +209,7 @@ impl Ending {
     {
         let line = Text::copy(alloc, sender_not_run())?;
         let outcome = not_sent(None, state.outcome);
-        Ok(self.keep(state, outcome, line))
+        Ok(self.keep_unsent(state, outcome, line))
     }
 
     // What follows the sender.
@@ -223,11 +224,11 @@ impl Ending {
         ensures keeps { KeepsButOutcome state.old state.new }
     {
         match sent {
-            Ok(output) => Ok(self.tell(output)),
+            Ok(output) => Ok(self.say_and_end(output)),
             Err(SendError::Refused { status, output }) => {
                 let line = ended_line(alloc, status, output)?;
                 let outcome = not_sent(Some(status), state.outcome);
-                Ok(self.keep(state, outcome, line))
+                Ok(self.keep_unsent(state, outcome, line))
             }
             Err(SendError::Child) => self.not_run(alloc, state),
             Err(SendError::NoRecipients) => self.not_run(alloc, state),
@@ -252,7 +253,7 @@ impl Ending {
     {
         match asked {
             AskResult::On | AskResult::Over => self.send(alloc, state),
-            AskResult::Refused { line } => Ok(self.keep(state, SendOutcome::Refused, line)),
+            AskResult::Refused { line } => Ok(self.keep_unsent(state, SendOutcome::Refused, line)),
             AskResult::Ended(status) => Ok(Turn::End(Flow::End(status))),
         }
     }
@@ -275,7 +276,7 @@ impl Ending {
     }
 
     // Records the draft where it is to be, and then sends it, or prints why that can't be.
-    fn post(&mut self, alloc: Global, state: &mut SessionState) -> Result<Turn, Memory>
+    fn check_names(&mut self, alloc: Global, state: &mut SessionState) -> Result<Turn, Memory>
         requires { IsDated 4 self.old }
         ensures leads { IfOk result (LeadsTo (most self.old)
             (posting state.old self.old.file self.old.letter self.old.names (names_refused self.old.names)) self.new state.new) }
@@ -283,7 +284,7 @@ impl Ending {
     {
         if let Some(line) = names_refused(alloc, self.names.items())? {
             let outcome = not_sent(None, state.outcome);
-            return Ok(self.keep(state, outcome, line));
+            return Ok(self.keep_unsent(state, outcome, line));
         }
         match self.record_of(alloc, state) {
             Ok(Some(change)) => {
@@ -292,13 +293,17 @@ impl Ending {
                 Ok(Turn::Ask(Call::Commit(changes)))
             }
             Ok(None) => self.send(alloc, state),
-            Err(Refusal::Fault { line }) => Ok(self.keep(state, SendOutcome::Unrecorded, line)),
+            Err(Refusal::Fault { line }) => Ok(self.keep_unsent(
+                state,
+                SendOutcome::Unrecorded,
+                line,
+            )),
             Err(Refusal::Memory) => Err(Memory),
         }
     }
 
     // Sends the draft to those that its names stand for; one with too many is kept as it was written.
-    fn address(&mut self, alloc: Global, state: &mut SessionState) -> Result<Turn, Memory>
+    fn expand_names(&mut self, alloc: Global, state: &mut SessionState) -> Result<Turn, Memory>
         requires { IsDated 4 self.old }
         ensures leads { IfOk result (LeadsTo (most self.old) (addressing state.old self.old.file self.old.letter.draft
             self.old.letter.moment (addressees state.old.desk self.old.letter.draft)) self.new state.new) }
@@ -309,12 +314,12 @@ impl Ending {
                 self.letter.draft.to = to;
                 self.letter.draft.cc = cc;
                 self.names = all;
-                self.post(alloc, state)
+                self.check_names(alloc, state)
             }
             None => {
                 let line = Text::copy(alloc, too_many_recipients())?;
                 let outcome = not_sent(None, state.outcome);
-                Ok(self.keep(state, outcome, line))
+                Ok(self.keep_unsent(state, outcome, line))
             }
         }
     }
@@ -345,16 +350,16 @@ impl Activity for Ending {
         match self.stage {
             Stage::Dating => {
                 self.letter.moment = answer.time();
-                self.address(alloc, state)
+                self.expand_names(alloc, state)
             }
             Stage::GivingUp => {
                 self.letter.moment = answer.time();
-                self.lose(alloc, state)
+                self.save_dead_letter(alloc, state)
             }
             Stage::Recording => self.after_record(alloc, state, answer.asked()),
             Stage::Sending => self.after_sender(alloc, state, answer.sent()),
-            Stage::Keeping => self.lose(alloc, state),
-            Stage::Burying => self.buried(alloc, state, answer.asked()),
+            Stage::Keeping => self.save_dead_letter(alloc, state),
+            Stage::Saving => self.after_dead_letter(alloc, state, answer.asked()),
             Stage::Telling => Ok(Turn::End(Flow::Go)),
         }
     }

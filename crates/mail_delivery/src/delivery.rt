@@ -231,7 +231,7 @@ fn put<H: Host>(
 }
 
 // A delivery, once its words are read.
-fn carry_out<H: Host>(
+fn do_request<H: Host>(
     alloc: Global,
     host: &mut H,
     request: &Request,
@@ -284,7 +284,7 @@ pub fn deliver<H: Host>(
     // the clause `safe` speaks of a token of 64 bits
     let _token = env.token;
     match reading(alloc, words, env.pairs.items()) {
-        Ok(Some(request)) => status_at(carry_out(alloc, host, &request, env)),
+        Ok(Some(request)) => status_at(do_request(alloc, host, &request, env)),
         Ok(None) => DeliverStatus::Usage,
         Err(Memory) => DeliverStatus::Memory,
     }

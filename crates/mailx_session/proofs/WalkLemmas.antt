@@ -80,8 +80,8 @@ use Rattle.session_asks.specs.Sourcing.{source_fault, after_load, sourced}
 use Rattle.session_asks.specs.Renewing.{folder_fault, loaded_again, taking, renews}
 use Rattle.session_asks.specs.Openings.{opened}
 use Rattle.session_asks.specs.Switching.{open_fault, loaded_folder, switched, announced, switched_to, switches}
-use Rattle.draft_sending.specs.Sending.{letter_of, text_of, unsent_by, refused_by, unrecorded, saved_one, buried, burying, lost, unsent, after_sender, sending, after_record, recording, posting, addressing, ended, ended_draft, quitted}
-use Rattle.mailx_session.specs.Drafting.{released, told, took_answer, given, after_fetch, fetched, after_child, after_edit, written, put, needed, took_line, drafted, draft_play}
+use Rattle.draft_sending.specs.Sending.{letter_of, text_of, unsent_by, refused_by, unrecorded, saved_one, after_dead_letter, burying, lost, unsent, after_sender, sending, after_record, recording, posting, addressing, ended, ended_draft, quitted}
+use Rattle.mailx_session.specs.Drafting.{released, told, took_answer, given, after_fetch, fetched, after_child, after_edit, written, add_to_file, needed, took_line, drafted, draft_play}
 use Rattle.mailx_session.specs.Leaving.{left_by, leaving}
 use Rattle.mailx_session.specs.Rounds.{line_play, command_play, typed_play, dropped_play, counted_play, is_empty, outside_play, is_uncounted, waiting_play}
 use Rattle.mailx_session.specs.Sessions.{carried_out}
@@ -482,9 +482,9 @@ module _ (W : Whose) (P : Commit → Type 0) (allows : Allows W P) (o : SendOutc
   edit-obeys s None of = (tt, λ u. of)
   edit-obeys s (Some a) of = given-obeys s s.draft (answer.Edited a) of
 
-  put-obeys : (s : SessionState) (name : OrFault (List ℕ)) (bytes : List ℕ) → Like s → Lines (put s name bytes)
-  put-obeys s (Ok name) bytes like = carried-obeys s (Ok (written name bytes)) (allows.writes s name bytes like.0, λ t of. (tt, λ v after. tt)) like
-  put-obeys s (Err line) bytes like = (tt, λ u. same-came false s like)
+  add_to_file-obeys : (s : SessionState) (name : OrFault (List ℕ)) (bytes : List ℕ) → Like s → Lines (add_to_file s name bytes)
+  add_to_file-obeys s (Ok name) bytes like = carried-obeys s (Ok (written name bytes)) (allows.writes s name bytes like.0, λ t of. (tt, λ v after. tt)) like
+  add_to_file-obeys s (Err line) bytes like = (tt, λ u. same-came false s like)
 
   -- ---- the end of a draft
 
@@ -510,7 +510,7 @@ module _ (W : Whose) (P : Commit → Type 0) (allows : Allows W P) (o : SendOutc
 
   burying-obeys : (b : Bool) (s : SessionState) (c : Option Change) → ChangeCommits P s c → IsAt b s → From (false, b) (LineEnds IsAt (EndsAs o)) (burying s c)
   burying-obeys b s None may of = of
-  burying-obeys b s (Some c) may of = file-obeys b s c (buried s (name_of c)) may (tt, λ u. of) (λ line. (tt, λ u. (of.0, tt))) refl
+  burying-obeys b s (Some c) may of = file-obeys b s c (after_dead_letter s (name_of c)) may (tt, λ u. of) (λ line. (tt, λ u. (of.0, tt))) refl
 
   lost-obeys : (b : Bool) (s : SessionState) (d : Draft) (m : Moment) → IsAt b s → From (false, b) (LineEnds IsAt (EndsAs o)) (lost s (letter_of d m))
   lost-obeys b s d m of = burying-obeys b s (dead s.desk (text_of s (letter_of d m))) (allows.buries s d m of.0) of
@@ -580,7 +580,7 @@ module _ (W : Whose) (P : Commit → Type 0) (allows : Allows W P) (o : SendOutc
   needed-obeys s (need.Child command input) like = (tt, λ a. child-obeys s a (same-came false s like))
   needed-obeys s (need.Edit command text) like = (tt, λ a. edit-obeys s a (same-came false s like))
   needed-obeys s (need.Command line) like = carried-obeys s (commanded origin.Draft s.desk line) (allows.commands s origin.Draft line like.0) like
-  needed-obeys s (need.Put word bytes) like = put-obeys s (expanded s.desk word) bytes like
+  needed-obeys s (need.Put word bytes) like = add_to_file-obeys s (expanded s.desk word) bytes like
   needed-obeys s need.Done like = ended-obeys s (same-came false s like)
   needed-obeys s need.Quit like = quitted-obeys s s.draft (same-came false s like)
   needed-obeys s need.Drop like = same-came false s like

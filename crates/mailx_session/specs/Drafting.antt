@@ -122,9 +122,9 @@ written name bytes = record {
 }
 
 -- bytes that are written to the file that a word stands for
-abbrev pub put : SessionState → OrFault (List ℕ) → List ℕ → Play (Next SessionState Status)
-put s (Ok name) bytes = carried_out s (Ok (written name bytes))
-put s (Err line) bytes = refused s line
+abbrev pub add_to_file : SessionState → OrFault (List ℕ) → List ℕ → Play (Next SessionState Status)
+add_to_file s (Ok name) bytes = carried_out s (Ok (written name bytes))
+add_to_file s (Err line) bytes = refused s line
 
 -- a command of the session is carried out while the draft is open; it brings no lines, so it isn't counted
 abbrev pub commanded_within : SessionState → List ℕ → Play (Next SessionState Status)
@@ -139,7 +139,7 @@ needed s need.Dead = fetched s (Ok s.desk.places.dead)
 needed s (need.Child command input) = run_for s command input
 needed s (need.Edit command text) = edit_for s command text
 needed s (need.Command line) = commanded_within s line
-needed s (need.Put word bytes) = put s (expanded s.desk word) bytes
+needed s (need.Put word bytes) = add_to_file s (expanded s.desk word) bytes
 needed s need.Done = ended_draft s
 needed s need.Quit = quit_draft s
 needed s need.Drop = Ret (Go (without_draft s))

@@ -5,13 +5,13 @@ ghost use Rattle.session_play.specs.Play.{Goes};
 ghost use Rattle.command_desk.specs.Desks.{IsDesk};
 ghost use Rattle.command_desk.specs.FileNames.{expanded};
 ghost use Rattle.session_asks.specs.Beginning.{view_as};
-ghost use Rattle.mailx_session.specs.Drafting.{draft_play, needed, put, released, written};
+ghost use Rattle.mailx_session.specs.Drafting.{draft_play, needed, add_to_file, released, written};
 ghost use Rattle.mailx_session.specs.Taking.{AwaitsAll, RefusesLine, TookLine};
 ghost use Rattle.session_state.specs.States.{IsState};
 ghost use Rattle.session_state.specs.Answers.{in_play, next_of, LineCaused, EndsByLine};
 
 use crate::fetching::{Fetching, escape_fault};
-use crate::lines::{carry_line, carry_out};
+use crate::lines::{carry_line, do_steps};
 use activities::drive;
 use command_desk::{expanded, unchanged};
 use compose_tilde::{Compose, ComposeError, Need};
@@ -42,7 +42,7 @@ fn written(alloc: Global, name: Text, bytes: Text) -> Result<Steps, Memory>
 }
 
 // Puts bytes at the end of the file that a word stands for.
-fn put<H: Host>(
+fn add_to_file<H: Host>(
     alloc: Global,
     state: &mut SessionState,
     host: &mut H,
@@ -51,7 +51,7 @@ fn put<H: Host>(
 ) -> Result<Flow, RunError>
     requires { IsState state.old }
     ensures ran { Ran H.world host.old host.new
-        (λ es. Goes (put state.old (expanded state.old.desk word.now) bytes) es
+        (λ es. Goes (add_to_file state.old (expanded state.old.desk word.now) bytes) es
         (in_play (next_of state.new) result)) }
     ensures state { IsState state.new }
     ensures done { IfOk result EndsByLine }
@@ -60,7 +60,7 @@ fn put<H: Host>(
     match expanded(alloc, &state.desk, word) {
         Ok(name) => {
             let steps = written(alloc, name, bytes)?;
-            carry_out(alloc, state, host, steps)
+            do_steps(alloc, state, host, steps)
         }
         Err(Refusal::Fault { line }) => go_on(say_text(state, host, &line)),
         Err(Refusal::Memory) => Err(RunError::Memory),
@@ -68,7 +68,7 @@ fn put<H: Host>(
 }
 
 // Does what the draft needs.
-fn meet<H: Host>(
+fn do_need<H: Host>(
     alloc: Global,
     state: &mut SessionState,
     host: &mut H,
@@ -84,7 +84,7 @@ fn meet<H: Host>(
 {
     match need {
         Need::Command(line) => carry_line(alloc, state, host, Origin::Draft, line.bytes()),
-        Need::Put { name, bytes } => put(alloc, state, host, name.bytes(), bytes),
+        Need::Put { name, bytes } => add_to_file(alloc, state, host, name.bytes(), bytes),
         Need::Done => end_draft(alloc, state, host),
         Need::Quit => quit_draft(alloc, state, host),
         Need::Drop => {
@@ -132,7 +132,7 @@ pub(crate) fn draft_line<H: Host>(
     ensures cause { LineCaused (H.world.counts host.old) (H.world.counts host.new) result }
 {
     match take_line(&state.desk, &mut state.draft, line) {
-        Ok(need) => meet(alloc, state, host, need),
+        Ok(need) => do_need(alloc, state, host, need),
         Err(error) => {
             let line = escape_fault(alloc, &error)?;
             go_on(say_text(state, host, &line))

@@ -91,7 +91,7 @@ fn take_answer(
 }
 
 // Lets the lines of a start-up file wait.
-fn bring(state: &mut SessionState, text: Text) -> Result<(), Memory>
+fn push_startup(state: &mut SessionState, text: Text) -> Result<(), Memory>
     ensures ok { OnOk result (state.new ≡ with_startup state.old text) }
     ensures err { OnErr result (state.new ≡ state.old) }
 {
@@ -112,7 +112,7 @@ impl Fetching {
     }
 
     // Prints the last line.
-    fn tell(&mut self, line: Text) -> Turn
+    fn say_and_end(&mut self, line: Text) -> Turn
         requires { 0 < most self.old }
         ensures { (s : SessionState) → LeadsTo (most self.old) (refused s line) self.new s result }
     {
@@ -126,7 +126,7 @@ impl Fetching {
         ensures { (s : SessionState) → LeadsTo (most self.old) (told s need) self.new s result }
     {
         match need {
-            Need::Say(bytes) => self.tell(bytes),
+            Need::Say(bytes) => self.say_and_end(bytes),
             Need::More
             | Need::Load(_)
             | Need::Dead
@@ -147,7 +147,7 @@ impl Fetching {
             → IfOk result (LeadsTo (most self.old) (refused s (with_feed (self.old.name ++ fault.now))) self.new s) }
     {
         let line = line_of(alloc, self.name.bytes(), fault)?;
-        Ok(self.tell(line))
+        Ok(self.say_and_end(line))
     }
 
     /// Loads the file of this name, or prints what is wrong with its name.
@@ -188,7 +188,7 @@ impl Fetching {
         match need {
             Need::Load(word) => match expanded(alloc, &state.desk, word.bytes()) {
                 Ok(name) => self.load(alloc, state, Stage::ForDraft, name.bytes()),
-                Err(Refusal::Fault { line }) => Ok(self.tell(line)),
+                Err(Refusal::Fault { line }) => Ok(self.say_and_end(line)),
                 Err(Refusal::Memory) => Err(Memory),
             },
             Need::Dead => {
@@ -203,7 +203,7 @@ impl Fetching {
                 self.stage = Stage::ForDraft;
                 Ok(Turn::Ask(Call::Edit { command, text }))
             }
-            Need::Say(bytes) => Ok(self.tell(bytes)),
+            Need::Say(bytes) => Ok(self.say_and_end(bytes)),
             Need::More
             | Need::Command(_)
             | Need::Put { .. }
@@ -214,7 +214,7 @@ impl Fetching {
     }
 
     // Gives an answer to the draft.
-    fn give(
+    fn answer_draft(
         &mut self,
         alloc: Global,
         state: &mut SessionState,
@@ -230,7 +230,7 @@ impl Fetching {
             Ok(need) => Ok(self.say_of(need)),
             Err(error) => {
                 let line = escape_fault(alloc, &error)?;
-                Ok(self.tell(line))
+                Ok(self.say_and_end(line))
             }
         }
     }
@@ -255,7 +255,7 @@ impl Fetching {
                     bytes: Some(text),
                     ..
                 },
-            ) => self.give(alloc, state, Given::Loaded(text)),
+            ) => self.answer_draft(alloc, state, Given::Loaded(text)),
             Some(Found::Bytes { bytes: None, .. }) => self.refuse(alloc, b": no such file"),
             Some(Found::TooLarge { .. }) => self.refuse(alloc, b": too large"),
             None => self.refuse(alloc, b": cannot be read"),
@@ -281,7 +281,7 @@ impl Fetching {
                     ..
                 },
             ) => {
-                bring(state, text)?;
+                push_startup(state, text)?;
                 Ok(Turn::End(Flow::Go))
             }
             Some(Found::Bytes { bytes: None, .. }) => Ok(Turn::End(Flow::Go)),
@@ -317,15 +317,15 @@ impl Activity for Fetching {
                     self.after_fetch(alloc, state, found)
                 }
             },
-            Answer::Ran(Some(answer)) => self.give(alloc, state, Given::Ran(answer)),
+            Answer::Ran(Some(answer)) => self.answer_draft(alloc, state, Given::Ran(answer)),
             Answer::Ran(None) => {
                 let line = line_of(alloc, b"", b"command could not be run")?;
-                Ok(self.tell(line))
+                Ok(self.say_and_end(line))
             }
-            Answer::Edited(Some(answer)) => self.give(alloc, state, Given::Edited(answer)),
+            Answer::Edited(Some(answer)) => self.answer_draft(alloc, state, Given::Edited(answer)),
             Answer::Edited(None) => {
                 let line = line_of(alloc, b"", b"editor could not be run")?;
-                Ok(self.tell(line))
+                Ok(self.say_and_end(line))
             }
             Answer::Said | Answer::Committed(_) | Answer::Sent(_) | Answer::Time(_) => {
                 Ok(Turn::End(Flow::Go))

@@ -37,7 +37,7 @@ const COMMAND_LIMIT: u32 = 100_000;
 
 // Makes the changes of a command once what it asked for was done. If memory runs out, the lines that it brought are
 // gone: the first `depth` frames stay.
-fn settle(state: &mut SessionState, depth: usize, effects: Effects) -> Result<(), RunError>
+fn apply_effects(state: &mut SessionState, depth: usize, effects: Effects) -> Result<(), RunError>
     requires before { IsDesk state.old.desk }
     requires after { IsDesk (effect state.old.desk effects) }
     ensures ok { OnOk result (state.new ≡ settled state.old effects) }
@@ -54,7 +54,7 @@ fn settle(state: &mut SessionState, depth: usize, effects: Effects) -> Result<()
 }
 
 /// Carries out a command's steps.
-pub(crate) fn carry_out<H: Host>(
+pub(crate) fn do_steps<H: Host>(
     alloc: Global,
     state: &mut SessionState,
     host: &mut H,
@@ -76,7 +76,7 @@ pub(crate) fn carry_out<H: Host>(
     let Steps { asks, effects } = steps;
     let depth = state.frames.depth();
     match do_asks(alloc, state, host, asks) {
-        Ok(AskResult::On) => match settle(state, depth, effects) {
+        Ok(AskResult::On) => match apply_effects(state, depth, effects) {
             Ok(()) => Ok(Flow::Go),
             Err(error) => Err(error),
         },
@@ -113,7 +113,7 @@ pub(crate) fn carry_line<H: Host>(
     ensures cause { LineCaused (H.world.counts host.old) (H.world.counts host.new) result }
 {
     match perform_line(alloc, origin, line, &state.desk) {
-        Ok(steps) => carry_out(alloc, state, host, steps),
+        Ok(steps) => do_steps(alloc, state, host, steps),
         Err(Refusal::Fault { line: fault }) => go_on(say_text(state, host, &fault)),
         Err(Refusal::Memory) => Err(RunError::Memory),
     }

@@ -14,7 +14,7 @@ use session_state::{RunError, SessionState};
 use std::alloc::Global;
 
 // Loads a start-up file, or prints what is wrong with it.
-fn load_file<H: Host>(
+fn load_startup<H: Host>(
     alloc: Global,
     state: &mut SessionState,
     host: &mut H,
@@ -50,7 +50,7 @@ pub(crate) fn startup_file<H: Host>(
     ensures no_disk { IfErr result IsNoDiskFault }
     ensures cause { LineCaused (H.world.counts host.old) (H.world.counts host.new) result }
 {
-    match load_file(alloc, state, host, name) {
+    match load_startup(alloc, state, host, name) {
         Ok(()) => match waiting_lines(alloc, state, host) {
             Ok(_) => Ok(()),
             Err(error) => Err(error),

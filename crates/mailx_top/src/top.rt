@@ -319,7 +319,7 @@ fn say_cut<H: Host>(host: &mut H, asked: Option<Start<'_>>, cause: Stop)
 }
 
 /// Carries out what the words ask for, if that is no trial.
-pub(crate) fn carry_out<H: Host>(
+pub(crate) fn run_words<H: Host>(
     alloc: Global,
     wanted: &Option<Wanted>,
     env: &Environment,
@@ -407,6 +407,6 @@ pub fn run<H: Host>(alloc: Global, words: &[Text], env: &Environment, host: &mut
     };
     match tries_of(&wanted, env) {
         Some(count) => try_out(alloc, count, host),
-        None => carry_out(alloc, &wanted, env, host),
+        None => run_words(alloc, &wanted, env, host),
     }
 }

@@ -11,7 +11,7 @@ ghost use Rattle.mailx_top.specs.Trying.{HasTried, IsSummary, IsTrialEnd, IsTrie
 
 use crate::Environment;
 use crate::status::stop_line;
-use crate::top::carry_out;
+use crate::top::run_words;
 use crate::trial::{trial_env, trial_words};
 use crate::words::wanted;
 use command_words::{Mode, Wanted};
@@ -61,7 +61,7 @@ fn try_words(
     ensures ends { IfOk result IsTrialEnd }
 {
     match wanted(alloc, words) {
-        Ok(wanted) => trial_end(carry_out(alloc, &wanted, env, host)),
+        Ok(wanted) => trial_end(run_words(alloc, &wanted, env, host)),
         Err(memory) => Err(memory),
     }
 }

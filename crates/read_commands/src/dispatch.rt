@@ -128,12 +128,12 @@ pub fn perform(alloc: Global, line: &CommandLine, desk: &Desk) -> Result<Steps, 
     if has_words_too_many(line) {
         Err(fault(alloc, name_of(line.word.bytes()), b": bad arguments"))
     } else {
-        carry_out(alloc, line, desk)
+        dispatch(alloc, line, desk)
     }
 }
 
 // What the command of a line comes to. Of the desk after it this promises only that its current message is one.
-fn carry_out(alloc: Global, line: &CommandLine, desk: &Desk) -> Result<Steps, Refusal>
+fn dispatch(alloc: Global, line: &CommandLine, desk: &Desk) -> Result<Steps, Refusal>
     requires desk { IsDesk desk.now }
     ensures means { Means result (meaning_of line.now.command line.now desk.now) }
     ensures within { IsWithin desk.now result }

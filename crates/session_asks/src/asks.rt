@@ -15,10 +15,10 @@ use crate::beginning::begin_recorded;
 use crate::calling::call;
 use crate::editing::edit;
 use crate::gathering::gather;
-use crate::renewing::renew;
+use crate::renewing::add_new_mail;
 use crate::running::run_asked;
 use crate::sourcing::source;
-use crate::switching::switch;
+use crate::switching::switch_folder;
 use crate::viewing::view;
 use host_port::Host;
 use mail_text::Items;
@@ -55,8 +55,8 @@ fn do_ask<H: Host>(
             name,
             changes,
             reply,
-        } => switch(alloc, state, host, name.bytes(), changes, &reply),
-        Wanted::Newmail => renew(alloc, state, host),
+        } => switch_folder(alloc, state, host, name.bytes(), changes, &reply),
+        Wanted::Newmail => add_new_mail(alloc, state, host),
         Wanted::View { kind } => view(alloc, state, kind),
         Wanted::Draft {
             draft,

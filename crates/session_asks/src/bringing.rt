@@ -15,7 +15,7 @@ fn size_of(text: &Text) -> usize
 }
 
 /// Puts the lines of a text in front of those that wait.
-pub(crate) fn bring(
+pub(crate) fn push_lines(
     state: &mut SessionState,
     kind: FrameKind,
     text: Text,

@@ -5,7 +5,7 @@ ghost use Rattle.session_asks.specs.Calling.{called};
 ghost use Rattle.session_state.specs.States.{OnlyFrames};
 ghost use Rattle.session_state.specs.Answers.{after_asks, EndsNoRun};
 
-use crate::bringing::bring;
+use crate::bringing::push_lines;
 use mail_text::{Memory, Text};
 use session_state::{AskResult, FrameKind, RunError, SessionState, refused};
 use std::alloc::Global;
@@ -22,7 +22,7 @@ fn call_lines(alloc: Global, state: &mut SessionState, text: &Text) -> Result<As
 {
     if state.frames.calls() < CALL_LIMIT {
         let text = Text::copy(alloc, text.bytes())?;
-        bring(state, FrameKind::Call, text)
+        push_lines(state, FrameKind::Call, text)
     } else {
         refused(alloc, b"calls nest too deep", b"")
     }

@@ -231,7 +231,7 @@ fn make(
 }
 
 // Puts an edited message on the desk, where it was looked at and is current.
-fn lay(desk: &mut Desk, n: u32, edited: Edited) -> Result<(), Memory>
+fn install_text(desk: &mut Desk, n: u32, edited: Edited) -> Result<(), Memory>
     requires message { IsMessageOf desk.old.shown n }
     requires laid { IsDesk (laid_as desk.old n edited) }
     requires looked { IsDesk (effect (laid_as desk.old n edited) edited.effects) }
@@ -257,7 +257,7 @@ fn lay(desk: &mut Desk, n: u32, edited: Edited) -> Result<(), Memory>
 }
 
 // Puts an edited message on the desk, and prints the receipt of its change.
-fn lay_and_tell<H: Host>(
+fn install_and_say<H: Host>(
     state: &mut SessionState,
     host: &mut H,
     n: u32,
@@ -276,7 +276,7 @@ fn lay_and_tell<H: Host>(
     ensures end { IfOk result EndsByAsk }
     ensures cause { LineCaused (H.world.counts host.old) (H.world.counts host.new) result }
 {
-    lay(&mut state.desk, n, edited)?;
+    install_text(&mut state.desk, n, edited)?;
     say_last(host, reply)
 }
 
@@ -304,7 +304,7 @@ fn commit_edited<H: Host>(
 {
     let asked = commit(alloc, state, host, changes);
     if all_done(&asked) {
-        lay_and_tell(state, host, n, edited, reply)
+        install_and_say(state, host, n, edited, reply)
     } else {
         asked
     }

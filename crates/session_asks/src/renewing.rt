@@ -124,7 +124,7 @@ fn clear(alloc: Global, desk: &mut Desk, none: Folder)
 
 // Takes in what was added to the folder's file, by what its load found. If memory runs out in it the desk is left
 // without messages.
-fn take_in(alloc: Global, desk: &mut Desk, found: Option<Found>) -> Result<(), Refusal>
+fn add_messages(alloc: Global, desk: &mut Desk, found: Option<Found>) -> Result<(), Refusal>
     requires { IsDesk desk.old }
     ensures ok { OnOk result (TakesIn desk.old found desk.new) }
     ensures err { IfErr result (λ refusal. IsRefused refusal (loaded_again desk.old found)) }
@@ -158,7 +158,7 @@ pub(crate) fn say_last<H: Host>(host: &mut H, bytes: &Text) -> Result<AskResult,
 }
 
 // Prints how many messages came to so many on a desk.
-fn tell<H: Host>(
+fn say_news<H: Host>(
     alloc: Global,
     host: &mut H,
     before: usize,
@@ -176,7 +176,7 @@ fn tell<H: Host>(
 }
 
 // Takes in what was added to the folder's file, by what its load found, and prints how many messages came.
-fn take_in_and_tell<H: Host>(
+fn add_and_say_news<H: Host>(
     alloc: Global,
     state: &mut SessionState,
     host: &mut H,
@@ -192,8 +192,8 @@ fn take_in_and_tell<H: Host>(
     ensures cause { LineCaused (H.world.counts host.old) (H.world.counts host.new) result }
 {
     let before = state.desk.shown.rows.items().len();
-    match take_in(alloc, &mut state.desk, found) {
-        Ok(()) => tell(alloc, host, before, &state.desk),
+    match add_messages(alloc, &mut state.desk, found) {
+        Ok(()) => say_news(alloc, host, before, &state.desk),
         Err(refusal) => refused_by(refusal),
     }
 }
@@ -216,13 +216,13 @@ fn load_again<H: Host>(
     ensures cause { LineCaused (H.world.counts host.old) (H.world.counts host.new) result }
 {
     match try_load(alloc, host, file) {
-        Ok(found) => take_in_and_tell(alloc, state, host, found),
+        Ok(found) => add_and_say_news(alloc, state, host, found),
         Err(_) => Err(RunError::Memory),
     }
 }
 
 // Loads the file of the folder, whose name was tested, and takes in what was added to it.
-fn renew_tested<H: Host>(
+fn add_new_mail_tested<H: Host>(
     alloc: Global,
     state: &mut SessionState,
     host: &mut H,
@@ -244,7 +244,7 @@ fn renew_tested<H: Host>(
 /// Takes in what was added to the folder's file, and prints how many messages came: they stand with their own marks
 /// behind those that there are, in a view made anew. A file that is held or can't be read, or whose messages don't begin
 /// with those of the folder, is refused by its line.
-pub(crate) fn renew<H: Host>(
+pub(crate) fn add_new_mail<H: Host>(
     alloc: Global,
     state: &mut SessionState,
     host: &mut H,
@@ -260,6 +260,6 @@ pub(crate) fn renew<H: Host>(
 {
     match folder_fault(alloc, state)? {
         Some(line) => Ok(AskResult::Refused { line }),
-        None => renew_tested(alloc, state, host),
+        None => add_new_mail_tested(alloc, state, host),
     }
 }

@@ -8,7 +8,7 @@ ghost use Rattle.session_asks.specs.Sourcing.{source_fault, sourced, after_load}
 ghost use Rattle.session_state.specs.States.{OnlyFrames};
 ghost use Rattle.session_state.specs.Answers.{after_asks, in_play, EndsNoRun};
 
-use crate::bringing::bring;
+use crate::bringing::push_lines;
 use command_desk::line_of;
 use host_port::Host;
 use mail_text::{Memory, Text};
@@ -53,7 +53,7 @@ fn after_load(
                 bytes: Some(text),
                 ..
             },
-        ) => bring(state, FrameKind::Source, text),
+        ) => push_lines(state, FrameKind::Source, text),
         Some(Found::Bytes { bytes: None, .. }) => refused(alloc, name, b": no such file"),
         Some(Found::TooLarge { .. }) => refused(alloc, name, b": too large"),
         None => refused(alloc, name, b": cannot be read"),
@@ -61,7 +61,7 @@ fn after_load(
 }
 
 // Loads a file that is said by this name, and brings its lines.
-fn load_file<H: Host>(
+fn load_source<H: Host>(
     alloc: Global,
     state: &mut SessionState,
     host: &mut H,
@@ -100,7 +100,7 @@ fn load_lines<H: Host>(
     ensures memory { IfErr result (λ e. e ≡ RunError.Memory) }
 {
     let file = placed(alloc, state.here.bytes(), name)?;
-    load_file(alloc, state, host, name, file.bytes())
+    load_source(alloc, state, host, name, file.bytes())
 }
 
 /// Loads a file and brings its lines, unless something stands in the way.

@@ -68,7 +68,7 @@ fn loaded_folder(
 }
 
 // Puts a folder on the desk in place of the one of this name, and drops what was gathered.
-fn lay(desk: &mut Desk, opening: Opening, previous: Text)
+fn install_folder(desk: &mut Desk, opening: Opening, previous: Text)
     requires size { IsKnownSize (page_size desk.old) opening.size }
     requires some { IfSome opening.size (λ n. 0 < n) }
     requires desk { IsDesk (with_folder desk.old opening.folder opening.shown) }
@@ -102,7 +102,7 @@ fn say_opened<H: Host>(
 }
 
 // Puts a folder on the desk and prints its lines after the reply.
-fn announce<H: Host>(
+fn install_and_announce<H: Host>(
     alloc: Global,
     state: &mut SessionState,
     host: &mut H,
@@ -122,13 +122,13 @@ fn announce<H: Host>(
     ensures end { IfOk result EndsByAsk }
     ensures cause { LineCaused (H.world.counts host.old) (H.world.counts host.new) result }
 {
-    lay(&mut state.desk, opening, previous);
+    install_folder(&mut state.desk, opening, previous);
     say_opened(alloc, host, &state.desk, reply)?;
     Ok(AskResult::Over)
 }
 
 // Commits the changes and opens the folder.
-fn leave_for<H: Host>(
+fn commit_and_switch<H: Host>(
     alloc: Global,
     state: &mut SessionState,
     host: &mut H,
@@ -151,7 +151,7 @@ fn leave_for<H: Host>(
 {
     let asked = commit(alloc, state, host, changes);
     if all_done(&asked) {
-        announce(alloc, state, host, reply, opening, previous)
+        install_and_announce(alloc, state, host, reply, opening, previous)
     } else {
         asked
     }
@@ -195,7 +195,7 @@ fn switch_to<H: Host>(
     ensures cause { LineCaused (H.world.counts host.old) (H.world.counts host.new) result }
 {
     let (opening, previous) = opening_named(alloc, state, name, folder)?;
-    leave_for(alloc, state, host, changes, reply, opening, previous)
+    commit_and_switch(alloc, state, host, changes, reply, opening, previous)
 }
 
 /// What a refusal leaves.
@@ -238,7 +238,7 @@ fn switch_found<H: Host>(
 }
 
 // Loads a file that is said by this name, and opens it once the changes were committed, whose names were tested.
-fn load_file<H: Host>(
+fn switch_loading<H: Host>(
     alloc: Global,
     state: &mut SessionState,
     host: &mut H,
@@ -265,7 +265,7 @@ fn load_file<H: Host>(
 }
 
 // Loads a file whose name was tested, as were those of the changes, and opens it once these were committed.
-fn load_and_switch<H: Host>(
+fn switch_tested<H: Host>(
     alloc: Global,
     state: &mut SessionState,
     host: &mut H,
@@ -284,12 +284,12 @@ fn load_and_switch<H: Host>(
     ensures cause { LineCaused (H.world.counts host.old) (H.world.counts host.new) result }
 {
     let file = placed(alloc, state.here.bytes(), name)?;
-    load_file(alloc, state, host, name, file.bytes(), changes, reply)
+    switch_loading(alloc, state, host, name, file.bytes(), changes, reply)
 }
 
 /// Opens a file in place of the folder, which is left by these changes: they are committed once the file was loaded.
 /// Then the reply and the new folder's lines are printed.
-pub(crate) fn switch<H: Host>(
+pub(crate) fn switch_folder<H: Host>(
     alloc: Global,
     state: &mut SessionState,
     host: &mut H,
@@ -309,6 +309,6 @@ pub(crate) fn switch<H: Host>(
 {
     match open_fault(alloc, state, name, changes.items())? {
         Some(line) => Ok(AskResult::Refused { line }),
-        None => load_and_switch(alloc, state, host, name, changes, reply),
+        None => switch_tested(alloc, state, host, name, changes, reply),
     }
 }

@@ -13,7 +13,7 @@ returns-in-Ok-Some-clause-run g c =
     let env = c.args.env.now in
     let fits : env.token < 2 ^ 64 = omega arith in
     let is : Some c.in-Ok-Some.request ≡ reading c.args.words.now env.pairs = cc (c.in-Ok-Some.ensures, c.in-Ok-Some.field-0-is, c.items.ensures) in
-    Ran-map (λ es loop. run-some c.args.words.now env c.in-Ok-Some.request c.status_at.result c.carry_out.result es fits is c.status_at.ensures loop) c.carry_out.ensures.ran
+    Ran-map (λ es loop. run-some c.args.words.now env c.in-Ok-Some.request c.status_at.result c.do_request.result es fits is c.status_at.ensures loop) c.do_request.ensures.ran
 
 pub returns-in-Ok-None-clause-run : goal.returns-in-Ok-None-clause-run
 returns-in-Ok-None-clause-run g c =
@@ -28,16 +28,16 @@ returns-in-Err-clause-run g c =
 
 pub returns-in-Ok-Some-clause-input_fault : goal.returns-in-Ok-Some-clause-input_fault
 returns-in-Ok-Some-clause-input_fault g c =
-    λ is. at-input c.carry_out.result (g.H.Host.world.counts c.args.host.now)
-    (g.H.Host.world.counts c.carry_out.new.host) c.carry_out.ensures.plain c.carry_out.ensures.cause (sym c.status_at.ensures ∙ is)
+    λ is. at-input c.do_request.result (g.H.Host.world.counts c.args.host.now)
+    (g.H.Host.world.counts c.do_request.new.host) c.do_request.ensures.plain c.do_request.ensures.cause (sym c.status_at.ensures ∙ is)
 
 pub returns-in-Ok-Some-clause-disk_fault : goal.returns-in-Ok-Some-clause-disk_fault
 returns-in-Ok-Some-clause-disk_fault g c =
-    λ is. at-disk c.carry_out.result (g.H.Host.world.counts c.args.host.now)
-    (g.H.Host.world.counts c.carry_out.new.host) c.carry_out.ensures.plain c.carry_out.ensures.cause (sym c.status_at.ensures ∙ is)
+    λ is. at-disk c.do_request.result (g.H.Host.world.counts c.args.host.now)
+    (g.H.Host.world.counts c.do_request.new.host) c.do_request.ensures.plain c.do_request.ensures.cause (sym c.status_at.ensures ∙ is)
 
 pub returns-in-Ok-Some-clause-usage_only : goal.returns-in-Ok-Some-clause-usage_only
-returns-in-Ok-Some-clause-usage_only g c = λ is. absurd (never-usage c.carry_out.result c.carry_out.ensures.plain (sym c.status_at.ensures ∙ is))
+returns-in-Ok-Some-clause-usage_only g c = λ is. absurd (never-usage c.do_request.result c.do_request.ensures.plain (sym c.status_at.ensures ∙ is))
 
 pub returns-in-Ok-Some-clause-safe : goal.returns-in-Ok-Some-clause-safe
 returns-in-Ok-Some-clause-safe g c = λ before es at to may.

@@ -9,7 +9,7 @@ use Rattle.mailx_session.proofs.drafting.draft_line.Goals as goal
 pub returns-in-Ok-clause-ran : goal.returns-in-Ok-clause-ran
 returns-in-Ok-clause-ran g c =
     let s = c.args.state.now in
-    rw (drafted-needed s s.draft c.args.line.now c.in-Ok.need _ refl c.in-Ok.ensures.line) c.meet.ensures.ran
+    rw (drafted-needed s s.draft c.args.line.now c.in-Ok.need _ refl c.in-Ok.ensures.line) c.do_need.ensures.ran
 
 pub returns-in_ok-line-in-Err-clause-ran : goal.returns-in_ok-line-in-Err-clause-ran
 returns-in_ok-line-in-Err-clause-ran g c =

@@ -8,7 +8,7 @@ use Rattle.mailx_session.proofs.StartupLemmas.{carried-ends, goes-ends}
 use Rattle.mailx_session.proofs.lines.carry_line.Goals as goal
 
 pub returns-in-Ok-clause-ran : goal.returns-in-Ok-clause-ran
-returns-in-Ok-clause-ran g c = rw c.in-Ok.ensures.means c.carry_out.ensures.ran
+returns-in-Ok-clause-ran g c = rw c.in-Ok.ensures.means c.do_steps.ensures.ran
 
 pub returns-in-Err-Fault-clause-ran : goal.returns-in-Err-Fault-clause-ran
 returns-in-Err-Fault-clause-ran g c = rw (c.go_on.ensures.means c.args.state.now) (search rules)
@@ -20,8 +20,8 @@ pub returns-in-Err-Memory-clause-ran : goal.returns-in-Err-Memory-clause-ran
 returns-in-Err-Memory-clause-ran g c = Ran-none (at-memory (line_play c.args.origin c.args.state.now c.args.line.now))
 
 pub returns-in-Ok-clause-done : goal.returns-in-Ok-clause-done
-returns-in-Ok-clause-done g c = carried-ends c.args.origin c.args.state.now.desk c.args.line.now c.in-Ok.steps c.carry_out.result
-    c.in-Ok.ensures.means c.carry_out.ensures.goes_on c.carry_out.ensures.done
+returns-in-Ok-clause-done g c = carried-ends c.args.origin c.args.state.now.desk c.args.line.now c.in-Ok.steps c.do_steps.result
+    c.in-Ok.ensures.means c.do_steps.ensures.goes_on c.do_steps.ensures.done
 
 pub returns-in-Err-Fault-clause-done : goal.returns-in-Err-Fault-clause-done
 returns-in-Err-Fault-clause-done g c = goes-ends c.args.origin c.go_on.result (c.go_on.ensures.goes_on c.say_text.ensures.no_disk)

@@ -82,27 +82,27 @@ returns-in-Some-clause-safe g c = λ before es at to may.
 pub returns-clause-run : goal.returns-clause-run
 returns-clause-run g c =
     let env = c.args.env.now in
-    let s = c.carry_out.result in
+    let s = c.run_words.result in
     let tries : None ≡ tries_of (reading c.args.words.now) env.pairs = c.in-None.ensures ∙ ap (λ (w : Option Wanted). tries_of w env.pairs) c.in-Ok.ensures in
-    subst (λ (t : Option ℕ). Ran g.H.Host.world c.args.host.now c.carry_out.new.host (Does t (asked c.args.words.now) env s)) tries
-    (subst (λ (w : Option Wanted). Ran g.H.Host.world c.args.host.now c.carry_out.new.host (IsRun (option_and_then start_by w) env s)) c.in-Ok.ensures c.carry_out.ensures.run)
+    subst (λ (t : Option ℕ). Ran g.H.Host.world c.args.host.now c.run_words.new.host (Does t (asked c.args.words.now) env s)) tries
+    (subst (λ (w : Option Wanted). Ran g.H.Host.world c.args.host.now c.run_words.new.host (IsRun (option_and_then start_by w) env s)) c.in-Ok.ensures c.run_words.ensures.run)
 
 pub returns-clause-usage_only : goal.returns-clause-usage_only
 returns-clause-usage_only g c = λ is.
     let env = c.args.env.now in (
       sym (c.in-None.ensures ∙ ap (λ (w : Option Wanted). tries_of w env.pairs) c.in-Ok.ensures),
-      subst (λ (w : Option Wanted). start_of (option_and_then start_by w) env.pairs ≡ None) c.in-Ok.ensures (c.carry_out.ensures.usage_only is),
+      subst (λ (w : Option Wanted). start_of (option_and_then start_by w) env.pairs ≡ None) c.in-Ok.ensures (c.run_words.ensures.usage_only is),
     )
 
 pub returns-clause-usage_always : goal.returns-clause-usage_always
 returns-clause-usage_always g c = λ refused.
-    c.carry_out.ensures.usage_always (ap (λ (w : Option Wanted). start_of (option_and_then start_by w) c.args.env.now.pairs) c.in-Ok.ensures ∙ refused.1)
+    c.run_words.ensures.usage_always (ap (λ (w : Option Wanted). start_of (option_and_then start_by w) c.args.env.now.pairs) c.in-Ok.ensures ∙ refused.1)
 
 pub returns-clause-complete : goal.returns-clause-complete
 returns-clause-complete g c = λ some still es.
     let env = c.args.env.now in
-    let C : Option Wanted → Type 0 = λ w. IsComplete (option_and_then start_by w) env c.carry_out.result es in
-    subst C c.in-Ok.ensures (c.carry_out.ensures.complete (λ none. some (ap (λ (w : Option Wanted). start_of (option_and_then start_by w) env.pairs) (sym c.in-Ok.ensures) ∙ none)) still es)
+    let C : Option Wanted → Type 0 = λ w. IsComplete (option_and_then start_by w) env c.run_words.result es in
+    subst C c.in-Ok.ensures (c.run_words.ensures.complete (λ none. some (ap (λ (w : Option Wanted). start_of (option_and_then start_by w) env.pairs) (sym c.in-Ok.ensures) ∙ none)) still es)
 
 pub returns-clause-tries : goal.returns-clause-tries
 returns-clause-tries g c = λ n is.
@@ -112,10 +112,10 @@ returns-clause-tries g c = λ n is.
 pub returns-clause-bad_name : goal.returns-clause-bad_name
 returns-clause-bad_name g c = λ bad.
     let env = c.args.env.now in
-    c.carry_out.ensures.bad_name (subst (λ (w : Option Wanted). IsBadName env (start_of (option_and_then start_by w) env.pairs)) (sym c.in-Ok.ensures) bad)
+    c.run_words.ensures.bad_name (subst (λ (w : Option Wanted). IsBadName env (start_of (option_and_then start_by w) env.pairs)) (sym c.in-Ok.ensures) bad)
 
 pub returns-clause-safe : goal.returns-clause-safe
 returns-clause-safe g c = λ before es at to may.
     let r = Ran-since before es (returns-clause-run g c) at to in
     let fits : c.args.env.now.token < 2 ^ 64 = omega arith in
-    does-safely (tries_of (reading c.args.words.now) c.args.env.now.pairs) (asked c.args.words.now) c.args.env.now c.carry_out.result _ es fits r.0 may r.1
+    does-safely (tries_of (reading c.args.words.now) c.args.env.now.pairs) (asked c.args.words.now) c.args.env.now c.run_words.result _ es fits r.0 may r.1

@@ -12,7 +12,7 @@ use Rattle.mailx_top.proofs.trying.try_words.Goals as goal
 pub returns-in-Ok-clause-ran : goal.returns-in-Ok-clause-ran
 returns-in-Ok-clause-ran c =
     let old = c.args.host.now in
-    let new = c.carry_out.new.host in
+    let new = c.run_words.new.host in
     let env = c.args.env.now in
-    let ran = subst (λ (w : Option Wanted). Ran scripted_world old new (IsRun (option_and_then start_by w) env c.carry_out.result)) c.in-Ok.ensures c.carry_out.ensures.run in
+    let ran = subst (λ (w : Option Wanted). Ran scripted_world old new (IsRun (option_and_then start_by w) env c.run_words.result)) c.in-Ok.ensures c.run_words.ensures.run in
     if-ok c.trial_end.result (λ s is. subst (λ (t : Status). Ran scripted_world old new (IsRun (asked c.args.words.now) env t)) (sym is) ran) c.trial_end.ensures.same

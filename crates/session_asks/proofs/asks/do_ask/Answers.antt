@@ -67,10 +67,10 @@ pub returns-in-Lines-clause-done : goal.returns-in-Lines-clause-done
 returns-in-Lines-clause-done g c = ends-by-ask c.call.result c.call.ensures.goes_on
 
 pub returns-in-Open-clause-ran : goal.returns-in-Open-clause-ran
-returns-in-Open-clause-ran g c = rw (asked-as c.args.state.now c.args.ask _ c.in-Open.is) (rw c.bytes-in-Open.ensures at c.switch.ensures.ran)
+returns-in-Open-clause-ran g c = rw (asked-as c.args.state.now c.args.ask _ c.in-Open.is) (rw c.bytes-in-Open.ensures at c.switch_folder.ensures.ran)
 
 pub returns-in-Newmail-clause-ran : goal.returns-in-Newmail-clause-ran
-returns-in-Newmail-clause-ran g c = rw (asked-as c.args.state.now c.args.ask _ c.in-Newmail.is) c.renew.ensures.ran
+returns-in-Newmail-clause-ran g c = rw (asked-as c.args.state.now c.args.ask _ c.in-Newmail.is) c.add_new_mail.ensures.ran
 
 pub returns-in-View-clause-ran : goal.returns-in-View-clause-ran
 returns-in-View-clause-ran g c = rw (asked-as c.args.state.now c.args.ask _ c.in-View.is) (Ran-none c.view.ensures.goes)

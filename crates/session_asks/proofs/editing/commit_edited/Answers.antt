@@ -16,7 +16,7 @@ returns-then-all_done-clause-ran g c =
     let s = c.args.state.now in
     let desk = effect (laid_as s.desk c.args.n c.args.edited) c.args.edited.effects in
     let on = done-on c.commit-asked.result (cc (c.all_done.ensures, c.if-all_done.true)) in
-    Ran-then (goes-then (saved s c.args.changes) (told c.args.reply.now desk) (On s) _) (rw on at c.commit-asked.ensures.ran) c.lay_and_tell.ensures.ran
+    Ran-then (goes-then (saved s c.args.changes) (told c.args.reply.now desk) (On s) _) (rw on at c.commit-asked.ensures.ran) c.install_and_say.ensures.ran
 
 pub returns-else-all_done-clause-ran : goal.returns-else-all_done-clause-ran
 returns-else-all_done-clause-ran g c =

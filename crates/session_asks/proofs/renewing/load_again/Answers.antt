@@ -13,7 +13,7 @@ try_load-requires g c = file-name c.args.file.now c.requires.file
 pub returns-in-Ok-clause-ran : goal.returns-in-Ok-clause-ran
 returns-in-Ok-clause-ran g c =
     let s = c.args.state.now in
-    Ran-then (goes-then (Ask (Try c.args.file.now) Ret) (λ (f : Option Found). taking s (loaded_again s.desk f)) _ _) c.in-Ok.ensures.ran c.take_in_and_tell.ensures.ran
+    Ran-then (goes-then (Ask (Try c.args.file.now) Ret) (λ (f : Option Found). taking s (loaded_again s.desk f)) _ _) c.in-Ok.ensures.ran c.add_and_say_news.ensures.ran
 
 pub returns-in-Err-clause-ran : goal.returns-in-Err-clause-ran
 returns-in-Err-clause-ran g c =

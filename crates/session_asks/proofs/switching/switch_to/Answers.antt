@@ -5,18 +5,18 @@ use Rattle.session_state.proofs.MemoryLemmas.{out-of-memory}
 use Rattle.session_asks.proofs.SwitchingLemmas.{know-switched}
 use Rattle.session_asks.proofs.switching.switch_to.Goals as goal
 
-pub leave_for-requires-clause-size : goal.leave_for-requires-clause-size
-leave_for-requires-clause-size g c = c.in_ok-opening.ensures.0.size
+pub commit_and_switch-requires-clause-size : goal.commit_and_switch-requires-clause-size
+commit_and_switch-requires-clause-size g c = c.in_ok-opening.ensures.0.size
 
-pub leave_for-requires-clause-some : goal.leave_for-requires-clause-some
-leave_for-requires-clause-some g c = c.in_ok-opening.ensures.0.some
+pub commit_and_switch-requires-clause-some : goal.commit_and_switch-requires-clause-some
+commit_and_switch-requires-clause-some g c = c.in_ok-opening.ensures.0.some
 
-pub leave_for-requires-clause-desk : goal.leave_for-requires-clause-desk
-leave_for-requires-clause-desk g c = c.in_ok-opening.ensures.0.valid
+pub commit_and_switch-requires-clause-desk : goal.commit_and_switch-requires-clause-desk
+commit_and_switch-requires-clause-desk g c = c.in_ok-opening.ensures.0.valid
 
 pub returns-clause-ran : goal.returns-clause-ran
 returns-clause-ran g c =
-    Ran-map (know-switched c.args.state.now c.args.name.now c.args.folder c.args.changes c.args.reply.now _ _ _ c.in_ok-opening.ensures.0 c.in_ok-opening.ensures.1) c.leave_for.ensures.ran
+    Ran-map (know-switched c.args.state.now c.args.name.now c.args.folder c.args.changes c.args.reply.now _ _ _ c.in_ok-opening.ensures.0 c.in_ok-opening.ensures.1) c.commit_and_switch.ensures.ran
 
 pub returns-in_err-opening-clause-ran : goal.returns-in_err-opening-clause-ran
 returns-in_err-opening-clause-ran g c = Ran-none
