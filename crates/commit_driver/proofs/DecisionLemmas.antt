@@ -2,7 +2,7 @@
 use Rattle.std.proofs.Common.{◌≡◌, ◌⊎◌, ℕ, ◌+◌, ◌≤◌, List, length, slice_set, refl, ap, sym, subst, inl, inr, ◌∙◌}
 use Rattle.std.specs.declared.option.Option.{Option}
 use Rattle.std.specs.declared.result.Result.{Result}
-use Rattle.std.specs.declared.result.Result.TheVariants.{Err}
+use Rattle.std.specs.declared.result.Result.TheVariants.{Ok, Err}
 use Rattle.folder_change.specs.declared.change.Change.{Change}
 use Rattle.commit_machine.specs.Records.{names_of}
 use Rattle.commit_driver.specs.declared.judge.Trouble.{Trouble}
@@ -10,8 +10,10 @@ use Rattle.commit_driver.specs.declared.judge.Trouble.TheVariants as trouble
 use Rattle.commit_driver.specs.declared.step.Step.{Step}
 use Rattle.commit_driver.specs.declared.place.Plan.{Plan}
 use Rattle.commit_driver.specs.declared.place.Place.{Place}
-use Rattle.commit_driver.specs.Judging.{Judges, TroubleFits}
-use Rattle.commit_driver.specs.Places.{files_of, file_ways, tails_for}
+use Rattle.commit_driver.specs.Judging.{Judges, JudgesParts, TroubleFits}
+use Rattle.commit_driver.specs.Holding.{AreHeldOf}
+use Rattle.commit_driver.proofs.HoldingLemmas.{ways-held, parts-held}
+use Rattle.commit_driver.specs.Places.{files_of, file_ways, parts_of, tails_for}
 use Rattle.commit_driver.specs.Answers.{judged_at, MakesFiles, Takes, WritesGo}
 
 -- running out of memory may stand for what the files were judged as
@@ -32,29 +34,39 @@ not-judged plan tails old why = record {
   ways_are = λ e. absurd (cc);
   go = old.go;
   go_is = λ e. absurd (cc);
-  files = old.files;
-  files_are = λ e. absurd (cc);
-  long = refl;
   is = refl;
 }
 
--- the files are judged, and it is settled how they come to be
-pub makes-files : (plan : Plan) (changes : List Change) (base : List (List ℕ)) (old now : Place) (tails : List (Option ℕ)) (judged result : Result Unit Trouble) (made : List (Option (List ℕ)))
-    → tails ≡ tails_for changes (names_of plan.value) old.files → Judges changes base (names_of plan.value) old.files judged made → TroubleFits (files_of plan) judged → length made ≡ length old.files
-    → WritesGo plan tails judged (record old { files = made }) result now → MakesFiles plan changes base old result now
-makes-files plan changes base old now tails judged result made tails_are j f long w = record {
-  made = made;
-  judged = judged-still changes base (names_of plan.value) old.files made judged result w.same j;
-  fits = fits-still (files_of plan) judged result w.same f;
+judged-fine : (judged result : Result Unit Trouble) → (result ≡ judged) ⊎ (result ≡ Err trouble.Memory) → result ≡ Ok tt → judged ≡ Ok tt
+judged-fine judged result (inl same) fine = sym same ∙ fine
+judged-fine judged result (inr short) fine = absurd (cc (sym short ∙ fine))
+
+-- the files are judged by what is held of them, and it is settled how they come to be
+pub makes-files : (plan : Plan) (changes : List Change) (base : List (List ℕ)) (old now : Place) (stays : List (Option ℕ)) (ends : List (List ℕ)) (judged result : Result Unit Trouble)
+    (held : List (Option (List ℕ))) → stays ≡ tails_for changes (names_of plan.value) old.files → files_of plan ≡ length (names_of plan.value) → length held ≡ length old.files
+    → JudgesParts changes base (names_of plan.value) stays ends old.files judged held
+    → WritesGo plan stays judged (record old { files = held }) result now → MakesFiles plan changes base old result now
+makes-files plan changes base old now stays ends judged result held stays_are many long j w = record {
+  made = j.made;
+  judged = judged-still changes base (names_of plan.value) old.files j.made judged result w.same j.judged;
+  fits = fits-still (files_of plan) judged result w.same (subst (λ (n : ℕ). TroubleFits n judged) (sym many) j.fits);
   ways = w.ways;
-  ways_are = λ fine. w.ways_are fine ∙ ap (file_ways made) tails_are;
+  ways_are = λ fine. ways fine;
   go = w.go;
   go_is = w.go_is;
-  files = w.files;
-  files_are = w.files_are;
-  long = w.long ∙ long;
+  files = held;
+  files_are = λ fine.
+      parts-held stays ends j.made held (all fine)
+      ∙ ap (parts_of j.made) (ap (file_ways j.made) stays_are ∙ sym (ways fine));
+  long = long;
   is = w.is;
 }
+  where
+    all : result ≡ Ok tt → AreHeldOf stays ends j.made held
+    all fine = j.held (judged-fine judged result w.same fine)
+
+    ways : result ≡ Ok tt → w.ways ≡ file_ways j.made (tails_for changes (names_of plan.value) old.files)
+    ways fine = w.ways_are fine ∙ ways-held stays ends j.made held (all fine) ∙ ap (file_ways j.made) stays_are
 
 -- memory runs out before they are judged
 pub makes-none : (plan : Plan) (changes : List Change) (base : List (List ℕ)) (old : Place) → MakesFiles plan changes base old (Err trouble.Memory) old

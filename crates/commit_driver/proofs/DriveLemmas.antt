@@ -12,7 +12,7 @@ use Rattle.host_port.specs.Ran.{Ran}
 use Rattle.host_port.proofs.RanLemmas.{Ran-none, Ran-then, Ran-map, rose-on, rose-back}
 use Rattle.folder_change.specs.declared.change.Change.{Change}
 use Rattle.commit_machine.specs.Jobs.{NoMemory, Job}
-use Rattle.commit_machine.specs.Machine.{State, Seizing, Timing, Looking, Undoing, Placing, Testing, Removing, Extending, Discarding, Unlocking, Erasing, Clearing, Preparing, Publishing, Locking, Loading, Staging, Deciding, Committing, Checking, Releasing, Ended, GoOn, Answer, Reply, Went, Saw, Long, Short, Fault, next, refused, after_reply}
+use Rattle.commit_machine.specs.Machine.{State, Seizing, Timing, Looking, Undoing, Placing, Testing, Removing, Extending, Discarding, Unlocking, Erasing, Clearing, Preparing, Publishing, Locking, Loading, Staging, Deciding, Committing, Checking, Releasing, Ended, GoOn, Answer, Reply, Went, Long, Fault, next, refused, after_reply}
 use Rattle.commit_machine.specs.Machine as machine
 use Rattle.commit_machine.specs.Goes.{IsNext, Goes, reply}
 use Rattle.commit_machine.proofs.runs.Stretches.{stretches_join, refused_twice}

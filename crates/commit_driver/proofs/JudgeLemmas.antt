@@ -1,12 +1,12 @@
 -- Changes of files, one after the other.
-use Rattle.std.proofs.Common.{◌≡◌, ◌≢◌, ℕ, suc, ◌+◌, ◌<◌, ◌≤◌, Bool, true, false, ◌||◌, List, [], ◌∷◌, length, map, drop, get_or, slice_set, refl, ap, sym, subst, inl, inr, ◌∙◌, add-one, arith}
-use Rattle.std.specs.Prelude.{All, nat_le, if◌then◌else◌}
+use Rattle.std.proofs.Common.{◌≡◌, ◌≢◌, ℕ, zero, suc, ◌+◌, ◌<◌, ◌≤◌, Bool, true, false, ◌||◌, List, [], ◌∷◌, length, map, drop, get_or, slice_set, refl, ap, sym, subst, inl, inr, ◌∙◌, add-one, arith}
+use Rattle.std.specs.Prelude.{All, nat_le, not, IsTrue, is_some, if◌then◌else◌}
 use Rattle.std.specs.declared.option.Option.{Option}
 use Rattle.std.specs.declared.option.Option.TheVariants.{Some, None}
 use Rattle.std.specs.declared.result.Result.{Result}
 use Rattle.std.specs.declared.result.Result.TheVariants.{Ok, Err}
 use Rattle.std.specs.Str.{bytes_eq}
-use Rattle.std.proofs.lemmas.Bool.{cases_Bool, leb-false}
+use Rattle.std.proofs.lemmas.Bool.{cases_Bool, and_parts, leb-false}
 use Rattle.std.proofs.Math.ListN.{drop_of_length-le}
 use Rattle.std.proofs.Math.Seq.{drop-cons}
 use Rattle.std.proofs.lemmas.List.Elements.{All-head, All-tail, All-get_or}
@@ -21,7 +21,11 @@ use Rattle.commit_machine.specs.Records.{has, AreDistinct}
 use Rattle.commit_machine.proofs.records.Same.{has_Mem, same_refl, same_true}
 use Rattle.commit_driver.specs.declared.judge.Trouble.{Trouble}
 use Rattle.commit_driver.specs.declared.judge.Trouble.TheVariants as trouble
-use Rattle.commit_driver.specs.Judging.{excess_of, number_in, JudgesOne, JudgesSo, Judges, TroubleFits}
+use Rattle.commit_machine.specs.Edits.{is_added, only_adds}
+use Rattle.commit_driver.specs.Places.{tail_at, tails_for}
+use Rattle.commit_driver.specs.Holding.{IsHeldOf, AreHeldOf}
+use Rattle.commit_driver.proofs.HoldingLemmas.{held-at, held-set, as-many}
+use Rattle.commit_driver.specs.Judging.{excess_of, number_in, JudgesOne, JudgesSo, Judges, JudgesHeld, JudgesParts, AddsTo, TroubleFits}
 use Rattle.commit_driver.proofs.SawLemmas.{AreNamed, length-set}
 
 pub are-named : (names : List (List ℕ)) (cs : List Change) → All (λ c. has names (name_of c) ≡ true) cs → AreNamed names cs
@@ -219,3 +223,101 @@ same-long first base k seen now (Ok u) one = ap length one.3 ∙ length-set seen
 same-long first base k seen now (Err (trouble.Changed i m)) one = one.0
 same-long first base k seen now (Err (trouble.TooLarge i n)) one = one.0
 same-long first base k seen now (Err trouble.Memory) one = one
+
+-- so many changes are made of what is held
+pub record PartsUpTo (changes : List Change) (base names : List (List ℕ)) (stays : List (Option ℕ)) (ends : List (List ℕ)) (first now : List (Option (List ℕ))) (k : ℕ) : Type 0 where
+  pub long : length now ≡ length first
+  pub so : (wholes : List (Option (List ℕ))) → AreHeldOf stays ends wholes first → (mades : List (Option (List ℕ))) × JudgedUpTo changes base names wholes mades k × AreHeldOf stays ends mades now
+
+pub parts-start : (changes : List Change) (base names : List (List ℕ)) (stays : List (Option ℕ)) (ends : List (List ℕ)) (first : List (Option (List ℕ)))
+    → PartsUpTo changes base names stays ends first first 0
+parts-start changes base names stays ends first = record { long = refl; so = λ wholes are. (wholes, judged-start changes base names wholes, are) }
+
+pub parts-end : (changes : List Change) (base names : List (List ℕ)) (stays : List (Option ℕ)) (ends : List (List ℕ)) (first now wholes : List (Option (List ℕ))) (k : ℕ)
+    → length changes ≤ k → PartsUpTo changes base names stays ends first now k → AreHeldOf stays ends wholes first
+    → JudgesParts changes base names stays ends wholes (Ok tt) now
+parts-end changes base names stays ends first now wholes k h p are =
+    let so = p.so wholes are in
+    record { made = so.0; judged = judged-end changes base names wholes so.0 k h so.1; long = so.1.long; fits = tt; held = λ fine. so.2 }
+
+-- the next change is made of what is held, or it can't be
+module _ (changes : List Change) (base names : List (List ℕ)) (stays : List (Option ℕ)) (ends : List (List ℕ)) (first now : List (Option (List ℕ))) (k at : ℕ) (change : Change)
+    (within : k < length changes) (is : change ≡ get_or changes k change) (named : All (λ c. has names (name_of c) ≡ true) changes) (number : at ≡ number_in names (name_of change))
+    (below : at < length now) (stay : Option ℕ) (end e : List ℕ) (stay_is : stay ≡ get_or stays at None) (end_is : end ≡ get_or ends at e)
+    (p : PartsUpTo changes base names stays ends first now k) where
+  held-here : (mades : List (Option (List ℕ))) → AreHeldOf stays ends mades now → IsHeldOf stay end (get_or mades at None) (get_or now at None)
+  held-here mades all =
+      subst (λ (s : Option ℕ). IsHeldOf s end (get_or mades at None) (get_or now at None)) (sym stay_is)
+      (subst (λ (x : List ℕ). IsHeldOf (get_or stays at None) x (get_or mades at None) (get_or now at None)) (sym end_is) (held-at stays ends mades now at e all below))
+
+  pub parts-next : (last : List (Option (List ℕ))) (u : Unit) → length last ≡ length now
+      → ((wholes : List (Option (List ℕ))) → length wholes ≡ length now → IsHeldOf stay end (get_or wholes at None) (get_or now at None)
+      → JudgesHeld change base stay end at wholes now (Ok u) last)
+      → PartsUpTo changes base names stays ends first last (k + 1)
+  parts-next last u as_long one = record {
+    long = as_long ∙ p.long;
+    so = λ wholes are.
+        let so = p.so wholes are in
+        let mades = so.0 in
+        let o = one mades (as-many stays ends mades now so.2) (held-here mades so.2) in
+        let file = o.0 in
+        let part = o.1 in
+        let there : IsHeldOf (get_or stays at None) (get_or ends at e) file part =
+        subst (λ (s : Option ℕ). IsHeldOf s (get_or ends at e) file part) stay_is (subst (λ (x : List ℕ). IsHeldOf stay x file part) end_is o.4) in (
+          slice_set mades at file,
+          judged-next changes base names wholes mades (slice_set mades at file) k at change within is named number so.1 u (file, o.2, o.3, refl),
+          subst (λ (fs : List (Option (List ℕ))). AreHeldOf stays ends (slice_set mades at file) fs) (sym o.5)
+              (held-set stays ends mades now at e file part so.2 below there),
+        );
+  }
+
+  pub parts-not : (last wholes : List (Option (List ℕ))) (t : Trouble)
+      → ((wholes : List (Option (List ℕ))) → length wholes ≡ length now → IsHeldOf stay end (get_or wholes at None) (get_or now at None)
+      → JudgesHeld change base stay end at wholes now (Err t) last)
+      → AreHeldOf stays ends wholes first → JudgesParts changes base names stays ends wholes (Err t) last
+  parts-not last wholes t one are =
+      let so = p.so wholes are in
+      let mades = so.0 in
+      let o = one mades (as-many stays ends mades now so.2) (held-here mades so.2) in
+      record {
+        made = mades;
+        judged = judged-not changes base names wholes mades mades k at change within is named number so.1 t mades o;
+        long = so.1.long;
+        fits = fits-so changes base names wholes mades mades k at change within is named number t o;
+        held = λ fine. absurd (cc);
+      }
+
+or-adds : (a b : Bool) → (not a || b) ≡ true → a ≡ true → b ≡ true
+or-adds true b h is = h
+or-adds false b h is = absurd (cc)
+
+adds-at : (cs : List Change) (name : List ℕ) → only_adds cs name ≡ true → (k : ℕ) (d : Change) → k < length cs → bytes_eq name (name_of (get_or cs k d)) ≡ true
+    → is_added (get_or cs k d) ≡ true
+adds-at [] name h k d l e = absurd (omega (arith, l))
+adds-at (c ∷ cs) name h zero d l e = or-adds (bytes_eq name (name_of c)) (is_added c) (and_parts (not (bytes_eq name (name_of c)) || is_added c) (only_adds cs name) h).0 e
+adds-at (c ∷ cs) name h (suc k) d l e = adds-at cs name (and_parts (not (bytes_eq name (name_of c)) || is_added c) (only_adds cs name) h).1 k d (omega (arith, l)) e
+
+-- the file of which bytes stay is one that all changes of its name add to
+stays-added : (changes : List Change) (names : List (List ℕ)) (files : List (Option (List ℕ))) (name : List ℕ) → has names name ≡ true
+    → IsTrue (is_some (get_or (tails_for changes names files) (number_in names name) None)) → only_adds changes name ≡ true
+stays-added changes [] files name h some = absurd (cc)
+stays-added changes (n ∷ ns) [] name h some = absurd (cc some)
+stays-added changes (n ∷ ns) (f ∷ fs) name h some = elim (cases_Bool (bytes_eq name n)) [
+  | inl y ↦
+      let here : IsTrue (is_some (tail_at (only_adds changes n) f)) =
+      subst (λ (k : ℕ). IsTrue (is_some (get_or (tails_for changes (n ∷ ns) (f ∷ fs)) k None))) (number-here n ns name y) some in
+      subst (λ (x : List ℕ). only_adds changes x ≡ true) (sym (same_true name n y)) (adds (only_adds changes n) f here)
+  | inr nay ↦
+      stays-added changes ns fs name (has-later n ns name h nay)
+      (subst (λ (k : ℕ). IsTrue (is_some (get_or (tails_for changes (n ∷ ns) (f ∷ fs)) k None))) (number-there n ns name nay) some)
+]
+  where
+    adds : (b : Bool) (file : Option (List ℕ)) → IsTrue (is_some (tail_at b file)) → b ≡ true
+    adds true file some = refl
+    adds false file some = absurd (cc some)
+
+pub all-added : (changes : List Change) (names : List (List ℕ)) (files : List (Option (List ℕ))) → All (λ c. has names (name_of c) ≡ true) changes
+    → All (AddsTo names (tails_for changes names files)) changes
+all-added changes names files named = λ k d l some.
+    let name = name_of (get_or changes k d) in
+    adds-at changes name (stays-added changes names files name (named k d l) some) k d l (same_refl name)

@@ -3,6 +3,7 @@ pub mod WithinLemmas
 pub mod StateLemmas
 pub mod WayLemmas
 pub mod MakingLemmas
+pub mod HoldingLemmas
 pub mod NextLemmas
 pub mod FitLemmas
 pub mod AnswerLemmas

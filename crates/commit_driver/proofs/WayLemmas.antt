@@ -1,5 +1,5 @@
 -- How files come to be, by their numbers and by their names.
-use Rattle.std.proofs.Common.{◌≡◌, ℕ, zero, suc, ◌+◌, ◌<◌, Bool, true, false, not, ◌&&◌, ◌||◌, List, [], ◌∷◌, ◌++◌, length, map, take, drop, get_or, slice_set, Option, Some, refl, ap, sym, subst, inl, inr, ◌∙◌, add-one, arith}
+use Rattle.std.proofs.Common.{◌≡◌, ℕ, zero, suc, ◌+◌, ◌<◌, Bool, true, false, not, ◌&&◌, ◌||◌, List, [], ◌∷◌, ◌++◌, length, map, take, drop, get_or, Option, Some, refl, ap, sym, subst, inl, inr, ◌∙◌, add-one, arith}
 use Rattle.std.specs.Str.{bytes_eq}
 use Rattle.std.specs.List.{list_all, list_any}
 use Rattle.commit_record.specs.Names.{is_lawful}
@@ -18,7 +18,7 @@ use Rattle.commit_machine.specs.Jobs.{Made, entries_for, made_at, way_made}
 use Rattle.commit_machine.proofs.records.Same.{same_refl, same_false, Mem_has}
 use Rattle.commit_machine.proofs.records.OfItems.{name-entry_for, fits-entry_for}
 use Rattle.commit_machine.proofs.records.OfJob.{tests, any-phase}
-use Rattle.commit_driver.specs.Places.{nth, nth_item, tail_at, tails_for, file_way, file_ways, part_of, parts_of, decided_entries, decided_record}
+use Rattle.commit_driver.specs.Places.{nth, nth_item, tail_at, tails_for, file_way, file_ways, decided_entries, decided_record}
 
 nth-Mem : (ns : List (List ℕ)) (at : ℕ) → at < length ns → Mem (nth ns at) ns
 nth-Mem [] at l = absurd (omega (arith, l))
@@ -221,24 +221,3 @@ pub tails-more : (changes : List Change) (es : List Entry) (files : List (Option
     → tails_for changes (map (λ (e : Entry). e.name) (take (at + 1) es)) (take (at + 1) files)
     ≡ tails_for changes (map (λ (e : Entry). e.name) (take at es)) (take at files) ++ tail_at (only_adds changes (get_or es at d).name) (get_or files at f) ∷ []
 tails-more changes es files at d f l k = ap (λ (n : ℕ). tails_for changes (map (λ (e : Entry). e.name) (take n es)) (take n files)) (add-one at) ∙ tails_taken changes es files at d f l k
-
--- what is held of the files, one after another
-pub parts-long : (files : List (Option (List ℕ))) (ways : List Way) → length (parts_of files ways) ≡ length files
-parts-long [] ways = refl
-parts-long (f ∷ fs) [] = refl
-parts-long (f ∷ fs) (w ∷ ws) = ap suc (parts-long fs ws)
-
-pub parts-none : (files : List (Option (List ℕ))) → parts_of files [] ≡ files
-parts-none [] = refl
-parts-none (f ∷ fs) = refl
-
-parts_taken : (files : List (Option (List ℕ))) (ways : List Way) (at : ℕ) (w : Way) (f : Option (List ℕ)) → at < length files → at < length ways
-    → slice_set (parts_of files (take at ways)) at (part_of (get_or ways at w) (get_or (parts_of files (take at ways)) at f)) ≡ parts_of files (take (suc at) ways)
-parts_taken [] ways at w f l k = absurd (omega (arith, l))
-parts_taken (x ∷ xs) [] at w f l k = absurd (omega (arith, k))
-parts_taken (x ∷ xs) (v ∷ vs) zero w f l k = ap (λ (ys : List (Option (List ℕ))). part_of v x ∷ ys) (sym (parts-none xs))
-parts_taken (x ∷ xs) (v ∷ vs) (suc at) w f l k = ap (λ (ys : List (Option (List ℕ))). part_of v x ∷ ys) (parts_taken xs vs at w f (omega (arith, l)) (omega (arith, k)))
-
-pub parts-more : (files : List (Option (List ℕ))) (ways : List Way) (at : ℕ) (w : Way) (f : Option (List ℕ)) → at < length files → at < length ways
-    → slice_set (parts_of files (take at ways)) at (part_of (get_or ways at w) (get_or (parts_of files (take at ways)) at f)) ≡ parts_of files (take (at + 1) ways)
-parts-more files ways at w f l k = parts_taken files ways at w f l k ∙ ap (λ (n : ℕ). parts_of files (take n ways)) (sym (add-one at))

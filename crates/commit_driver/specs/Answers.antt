@@ -95,18 +95,14 @@ abbrev pub Looks : Plan → Option (List ℕ) → Place → Place → Type 0
 Looks plan None old now = now ≡ at_step old (if plan.commits then step.Preparing else step.Clearing recovered.Nothing)
 Looks plan (Some bytes) old now = (result : Result Found End) × Finds bytes result × LooksAt result old now
 
--- How the files come to be is settled, the text of the decision is written, and what is staged for the files is held alone, if the files
--- were judged so, unless memory runs out.
+-- How the files come to be is settled, and the text of the decision is written, if the files were judged so, unless memory runs out.
 pub record WritesGo (plan : Plan) (tails : List (Option ℕ)) (judged : Result Unit Trouble) (old : Place) (result : Result Unit Trouble) (now : Place) : Type 0 where
   pub same : (result ≡ judged) ⊎ (result ≡ Err trouble.Memory)
   pub ways : List Way
   pub ways_are : result ≡ Ok tt → ways ≡ file_ways old.files tails
   pub go : List ℕ
   pub go_is : result ≡ Ok tt → go ≡ written (decided_record plan.value ways)
-  pub files : List (Option (List ℕ))
-  pub files_are : result ≡ Ok tt → files ≡ parts_of old.files ways
-  pub long : length files ≡ length old.files
-  pub is : now ≡ record old { files = files; ways = ways; go = go }
+  pub is : now ≡ record old { ways = ways; go = go }
 
 -- What is made of the files once all are loaded. Then it is settled how they come to be, the text of the decision is written, and of a file
 -- that is extended no more is held than is staged for it.

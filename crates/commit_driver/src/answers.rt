@@ -9,10 +9,10 @@ ghost use Rattle.folder_change.specs.Changes.{name_of};
 ghost use Rattle.commit_driver.specs.declared.step.Step.TheVariants as Step;
 ghost use Rattle.commit_record.specs.Format.{is_valid};
 ghost use Rattle.commit_driver.specs.Steps.{call_at, unlocking_at, undoing_at, place_at, known_at, placing_at, tested_at, locking_at, staging_at, count_at, recovered_at, closed_at, passed_end, passed_then, passed_at, faulted_at, too_large_at, no_memory_at, done_at, Fits};
-ghost use Rattle.commit_driver.specs.Places.{files_of, entries_of, ways_of, IsPlace, IsCounted};
+ghost use Rattle.commit_driver.specs.Places.{tails_for, files_of, entries_of, ways_of, IsPlace, IsCounted};
 ghost use Rattle.commit_driver.specs.Answers.{Finds, PassedSo, Looks, WritesGo, MakesFiles, Takes, LoadedSo, Answered, IsAnswer, IsAfter, closing_at, judged_at};
 
-use crate::decision::{decided, keep_parts, own_way, tails_for};
+use crate::decision::{decided, ends_for, let_all_go, own_way, tails_for};
 use crate::judge::{Trouble, judge};
 use crate::{End, Passed, Place, Plan, Recovered, Step, Then};
 use commit_machine::staged_name;
@@ -394,8 +394,7 @@ fn judged(files: usize, done: Result<(), Trouble>) -> Step
     unlocking(0, files, Then::Answer(why))
 }
 
-// What becomes of the files is settled: the text of the decision is written, and what is staged for the files is kept
-// alone.
+// What becomes of the files is settled: the text of the decision is written.
 fn write_decision(
     alloc: Global,
     plan: &Plan,
@@ -411,17 +410,48 @@ fn write_decision(
     match judged {
         Ok(()) => match decided(alloc, &plan.value, place.files.items(), tails) {
             Ok(decision) => {
-                let kept = keep_parts(alloc, decision.ways.items(), &mut place.files);
                 place.ways = decision.ways;
                 place.go = decision.text;
-                match kept {
-                    Ok(()) => Ok(()),
-                    Err(Memory) => Err(Trouble::Memory),
-                }
+                Ok(())
             }
             Err(Memory) => Err(Trouble::Memory),
         },
         Err(why) => Err(why),
+    }
+}
+
+// Lets the bytes go that stay, and judges what the changes make of the files, and settles what becomes of them.
+fn make_parts(
+    alloc: Global,
+    plan: &Plan,
+    place: &mut Place,
+    changes: &[Change],
+    base: Option<&Folder>,
+    stays: &[Option<u64>],
+) -> Result<(), Trouble>
+    requires files { length place.old.files ≡ files_of plan.now }
+    requires valid { is_valid plan.now.value ≡ true }
+    requires named { All (λ c. has (names_of plan.now.value) (name_of c) ≡ true) changes.now }
+    requires based { All (λ c. IsTrue (is_rewrite c) → IsSome base) changes.now }
+    requires stays { stays.now ≡ tails_for changes.now (names_of plan.now.value) place.old.files }
+    ensures { MakesFiles plan.now changes.now (base_list (option_copied base.entry)) place.old result place.new }
+{
+    let entries = plan.value.entries.items();
+    match ends_for(alloc, place.files.items(), stays) {
+        Ok(ends) => {
+            let_all_go(alloc, stays, &mut place.files);
+            let result = judge(
+                alloc,
+                changes,
+                base,
+                entries,
+                stays,
+                ends.items(),
+                &mut place.files,
+            );
+            write_decision(alloc, plan, place, stays, result)
+        }
+        Err(Memory) => Err(Trouble::Memory),
     }
 }
 
@@ -441,10 +471,7 @@ fn make_files(
 {
     let entries = plan.value.entries.items();
     match tails_for(alloc, changes, entries, place.files.items()) {
-        Ok(tails) => {
-            let result = judge(alloc, changes, base, entries, &mut place.files);
-            write_decision(alloc, plan, place, tails.items(), result)
-        }
+        Ok(stays) => make_parts(alloc, plan, place, changes, base, stays.items()),
         Err(Memory) => Err(Trouble::Memory),
     }
 }

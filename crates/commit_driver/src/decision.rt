@@ -1,11 +1,12 @@
 // The record of a decision, once it is known what is to stand in the files.
-ghost use Rattle.std.specs.Prelude.{◌≡◌, ◌<◌, ◌&&◌, ◌||◌, not, true, None, length, map, drop, get_or, slice_set, IfOk, OnOk};
+ghost use Rattle.std.specs.Prelude.{◌≡◌, ◌<◌, ◌&&◌, ◌||◌, not, true, None, length, map, get_or, slice_set, IfOk};
 ghost use Rattle.std.specs.Str.{bytes_eq};
 ghost use Rattle.folder_change.specs.Changes.{name_of};
 ghost use Rattle.commit_record.specs.Format.{is_valid, written};
 ghost use Rattle.commit_record.specs.declared.way.Way.TheVariants as Way;
 ghost use Rattle.commit_machine.specs.Edits.{is_added, only_adds};
-ghost use Rattle.commit_driver.specs.Places.{tail_at, tails_for, file_way, file_ways, part_of, parts_of, decided_entries, decided_record};
+ghost use Rattle.commit_driver.specs.Places.{tail_at, tails_for, file_way, file_ways, decided_entries, decided_record};
+ghost use Rattle.commit_driver.specs.Holding.{stay_end, ends_for, held_first, held_for};
 
 use commit_record::{Entry, Phase, Record, Way, entry_for, write};
 use folder_change::{Change, change_name};
@@ -14,6 +15,9 @@ use std::alloc::Global;
 
 /// The most bytes of a file that was loaded.
 const MOST_BYTES: usize = 268_435_456;
+
+/// As many bytes at a file's end decide what an added change puts behind them.
+pub(crate) const END: usize = 2;
 
 /// Whether a change puts its bytes behind those of the file.
 pub fn is_added(change: &Change) -> bool
@@ -71,8 +75,8 @@ fn file_way(file: &Option<Text>, tail: Option<u64>) -> Way
     }
 }
 
-// How many bytes of the file with this number stay.
-fn own_tail(tails: &[Option<u64>], at: usize) -> Option<u64>
+/// How many bytes of the file with this number stay.
+pub(crate) fn own_tail(tails: &[Option<u64>], at: usize) -> Option<u64>
     ensures { result ≡ get_or tails.now at None }
 {
     match tails.get(at) {
@@ -162,58 +166,69 @@ pub fn decided(
     Ok(Decision { ways, text })
 }
 
-// What follows so many bytes.
-fn behind(bytes: &[u8], count: u64) -> &[u8]
-    ensures { result.now ≡ drop count bytes.now }
+// The end of the bytes that stay of a loaded file.
+fn stay_end(file: &Option<Text>, stay: Option<u64>) -> &[u8]
+    ensures { result.now ≡ stay_end file.now stay }
 {
-    if (bytes.len() as u64) < count {
-        return b"";
-    }
-    let (_, rest) = bytes.split_at(count as usize);
-    rest
-}
-
-// Of a file that is extended, what is staged for it is kept alone.
-fn keep_part(alloc: Global, way: Way, file: &mut Option<Text>) -> Result<(), Memory>
-    ensures { OnOk result (file.new ≡ part_of way file.old) }
-{
-    match (file, way) {
-        (Some(text), Way::Extend(at)) => {
-            let tail = Text::copy(alloc, behind(text.bytes(), at))?;
-            *text = tail;
-            Ok(())
+    match (file, stay) {
+        (Some(text), Some(_)) => {
+            let (_, end) = text
+                .bytes()
+                .split_at(text.bytes().len().saturating_sub(END));
+            end
         }
-        _ => Ok(()),
+        _ => b"",
     }
 }
 
-// Of the file with this number.
-fn keep_at(
+// A copy of it.
+fn end_at(alloc: Global, file: &Option<Text>, stay: Option<u64>) -> Result<Text, Memory>
+    ensures { IfOk result (λ end. end ≡ stay_end file.now stay) }
+{
+    Text::copy(alloc, stay_end(file, stay))
+}
+
+/// The last two of the bytes that stay of each loaded file.
+pub fn ends_for(
     alloc: Global,
-    way: Way,
-    at: usize,
-    files: &mut Items<Option<Text>>,
-) -> Result<(), Memory>
+    files: &[Option<Text>],
+    stays: &[Option<u64>],
+) -> Result<Items<Text>, Memory>
+    requires { length stays.now ≡ length files.now }
+    ensures { IfOk result (λ ends. ends ≡ ends_for files.now stays.now) }
+{
+    let mut ends = Items::new(alloc);
+    for at in 0..files.len() {
+        let end = end_at(alloc, &files[at], own_tail(stays, at))?;
+        ends.push(end)?;
+    }
+    Ok(ends)
+}
+
+// Lets the bytes of a loaded file go that stay.
+fn let_go(alloc: Global, stay: Option<u64>, file: &mut Option<Text>)
+    ensures { file.new ≡ held_first stay file.old }
+{
+    match (file, stay) {
+        (Some(text), Some(_)) => *text = Text::new(alloc),
+        _ => {}
+    }
+}
+
+// Lets those of the file with this number go.
+fn let_go_at(alloc: Global, stay: Option<u64>, at: usize, files: &mut Items<Option<Text>>)
     requires { at < length files.old }
-    ensures part { OnOk result (files.new ≡ slice_set files.old at (part_of way (get_or files.old at None))) }
-    ensures long { length files.new ≡ length files.old }
+    ensures { files.new ≡ slice_set files.old at (held_first stay (get_or files.old at None)) }
 {
-    keep_part(alloc, way, files.get_mut(at))
+    let_go(alloc, stay, files.get_mut(at));
 }
 
-/// Of each file that is extended, what is staged for it is kept alone: the bytes that stay are on the disk, and no call
-/// wants them. If memory runs out, the files are no longer of use.
-pub fn keep_parts(
-    alloc: Global,
-    ways: &[Way],
-    files: &mut Items<Option<Text>>,
-) -> Result<(), Memory>
-    requires { length ways.now ≡ length files.old }
-    ensures parts { OnOk result (files.new ≡ parts_of files.old ways.now) }
-    ensures long { length files.new ≡ length files.old }
+/// Lets the bytes go that stay of loaded files: they are on the disk, and no call wants them.
+pub fn let_all_go(alloc: Global, stays: &[Option<u64>], files: &mut Items<Option<Text>>)
+    requires { length stays.now ≡ length files.old }
+    ensures { files.new ≡ held_for files.old stays.now }
 {
-    for at in 0..ways.len() {
-        keep_at(alloc, own_way(ways, at), at, files)?;
+    for at in 0..stays.len() {
+        let_go_at(alloc, own_tail(stays, at), at, files);
     }
-    Ok(())
 }

@@ -1,10 +1,13 @@
 // What changes make of files.
-ghost use Rattle.std.specs.Prelude.{◌≡◌, ◌<◌, ◌≤◌, true, length, map, All, IsTrue, IsSome, option_copied};
+ghost use Rattle.std.specs.Prelude.{◌≡◌, ◌<◌, ◌≤◌, ℕ, List, Option, None, true, length, map, get_or, All, IsTrue, IsSome, is_some, option_copied};
 ghost use Rattle.folder_change.specs.Changes.{name_of, is_rewrite};
 ghost use Rattle.folder_change.specs.Outcomes.{base_list};
 ghost use Rattle.commit_machine.specs.Records.{has};
-ghost use Rattle.commit_driver.specs.Judging.{Judges, JudgesOne, TroubleFits, excess_of, number_in};
+ghost use Rattle.commit_machine.specs.Edits.{is_added};
+ghost use Rattle.commit_driver.specs.Holding.{IsHeldOf, AreHeldOf};
+ghost use Rattle.commit_driver.specs.Judging.{JudgesHeld, JudgesParts, AddsTo, excess_of, number_in};
 
+use crate::decision::own_tail;
 use crate::making::change_file;
 use commit_record::Entry;
 use folder_change::{Change, ChangeError, change_name};
@@ -13,7 +16,7 @@ use mbox_scan::Folder;
 use std::alloc::Global;
 
 /// The most bytes that a file may have.
-const MOST_BYTES: usize = 268_435_456;
+const MOST_BYTES: u64 = 268_435_456;
 
 /// Why changes can't be made. Files go by their numbers, from 0.
 #[derive(Clone, Copy)]
@@ -26,14 +29,15 @@ pub enum Trouble {
     Memory,
 }
 
-// How long a file is that is too long.
-fn excess(file: &Option<Text>) -> Option<u64>
-    ensures { result ≡ excess_of file.now }
+// How long a file is that is too long, of which so much is held.
+fn excess(stay: Option<u64>, held: &Option<Text>) -> Option<u64>
+    ensures { (end : List ℕ) → (whole : Option (List ℕ)) → IsHeldOf stay end whole held.now → result ≡ excess_of whole }
 {
-    match file {
+    match held {
         Some(text) => {
-            if text.bytes().len() > MOST_BYTES {
-                Some(text.bytes().len() as u64)
+            let length = stay.unwrap_or(0).saturating_add(text.bytes().len() as u64);
+            if length > MOST_BYTES {
+                Some(length)
             } else {
                 None
             }
@@ -59,20 +63,26 @@ fn number_of(entries: &[Entry], name: &[u8]) -> usize
     }
 }
 
-// What a change makes of the file with this number.
+// What a change makes of the file with this number, of which so many bytes stay, that end so.
 fn judge_one(
     alloc: Global,
     change: &Change,
     base: Option<&Folder>,
+    stay: Option<u64>,
+    end: &[u8],
     at: usize,
     files: &mut Items<Option<Text>>,
 ) -> Result<(), Trouble>
     requires based { IsTrue (is_rewrite change.now) → IsSome base }
+    requires added { IsTrue (is_some stay) → is_added change.now ≡ true }
     requires at { at < length files.old }
-    ensures { JudgesOne change.now (base_list (option_copied base.entry)) at files.old result files.new }
+    ensures one { (wholes : List (Option (List ℕ))) → length wholes ≡ length files.old
+        → IsHeldOf stay end.now (get_or wholes at None) (get_or files.old at None)
+        → JudgesHeld change.now (base_list (option_copied base.entry)) stay end.now at wholes files.old result files.new }
+    ensures long { length files.new ≡ length files.old }
 {
-    match change_file(alloc, change, base, files.get_mut(at)) {
-        Ok(()) => match excess(&files.items()[at]) {
+    match change_file(alloc, change, base, stay, end, files.get_mut(at)) {
+        Ok(()) => match excess(stay, &files.items()[at]) {
             None => Ok(()),
             Some(length) => Err(Trouble::TooLarge { file: at, length }),
         },
@@ -84,26 +94,32 @@ fn judge_one(
     }
 }
 
-/// What changes, in order, make of the files of these entries. A file that is only added to isn't copied, so it takes as
-/// much time as there are bytes in the files and the changes. If it can't be done, the files are no longer of use.
+/// What changes, in order, make of the files of these entries, of which so many bytes stay, that end so: what is held of
+/// them. It takes as much time as there are bytes held and in the changes. If it can't be done, the files are no longer of
+/// use.
 pub fn judge(
     alloc: Global,
     changes: &[Change],
     base: Option<&Folder>,
     entries: &[Entry],
+    stays: &[Option<u64>],
+    ends: &[Text],
     files: &mut Items<Option<Text>>,
 ) -> Result<(), Trouble>
     requires named { All (λ c. has (map (λ e. e.name) entries.now) (name_of c) ≡ true) changes.now }
     requires based { All (λ c. IsTrue (is_rewrite c) → IsSome base) changes.now }
     requires long { length files.old ≡ length entries.now }
-    ensures judged { Judges changes.now (base_list (option_copied base.entry)) (map (λ e. e.name) entries.now)
-        files.old result files.new }
+    requires ends { length ends.now ≡ length entries.now }
+    requires added { All (AddsTo (map (λ e. e.name) entries.now) stays.now) changes.now }
+    ensures judged { (wholes : List (Option (List ℕ))) → AreHeldOf stays.now ends.now wholes files.old
+        → JudgesParts changes.now (base_list (option_copied base.entry)) (map (λ e. e.name) entries.now) stays.now ends.now
+        wholes result files.new }
     ensures long { length files.new ≡ length files.old }
-    ensures fits { TroubleFits (length entries.now) result }
 {
     for change in changes {
         let at = number_of(entries, change_name(change));
-        judge_one(alloc, change, base, at, files)?;
+        let end = ends[at].bytes();
+        judge_one(alloc, change, base, own_tail(stays, at), end, at, files)?;
     }
     Ok(())
 }

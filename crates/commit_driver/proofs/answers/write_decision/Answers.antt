@@ -1,16 +1,9 @@
-use Rattle.std.proofs.Common.{Err, length, ap, sym, subst, ◌∙◌}
+use Rattle.std.proofs.Common.{Err, sym, subst}
 use Rattle.std.specs.declared.result.Result.{Result}
 use Rattle.commit_driver.specs.declared.judge.Trouble.{Trouble}
 use Rattle.commit_driver.specs.Answers.{WritesGo}
-use Rattle.commit_driver.proofs.WayLemmas.{ways-long}
 use Rattle.commit_driver.proofs.DecisionLemmas.{not-judged}
 use Rattle.commit_driver.proofs.answers.write_decision.Goals as goal
-
-pub keep_parts-kept-requires : goal.keep_parts-kept-requires
-keep_parts-kept-requires c =
-    let fs = c.items.result.now in
-    let same = ap length c.items.ensures in
-    ap length (c.items-in-Ok-decided.ensures ∙ c.in-Ok-decided.ensures.ways) ∙ ways-long fs c.args.tails.now (c.requires.tails ∙ sym (same ∙ c.requires.files)) ∙ same
 
 pub returns-in-Err : goal.returns-in-Err
 returns-in-Err c =
