@@ -17,8 +17,8 @@ use Rattle.core_steps.specs.Turns.{Passed}
 use Rattle.core_steps.proofs.Views.{same_at}
 use Rattle.actor_core.specs.Answers.{Begins}
 use Rattle.actor_core.specs.Shown.{Held, IsCore, state_shown}
-use Rattle.actor_core.specs.Starting.{LooksGood, TakesFirst}
-use Rattle.actor_core.proofs.StartLemmas.{bad_record, token_taken}
+use Rattle.actor_disk.specs.Starting.{LooksGood, TakesFirst}
+use Rattle.actor_disk.proofs.StartLemmas.{bad_record, token_taken}
 
 -- what holds of a disk holds of one that is the same at each name
 moved : (P : Files → Locks → Type 0) (f g : Files) (l m : Locks) → ((q : List ℕ) → f q ≡ g q) → ((q : List ℕ) → l q ≡ m q) → P f l → P g m

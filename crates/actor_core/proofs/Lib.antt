@@ -1,14 +1,5 @@
-pub mod StartLemmas
-pub mod SettleLemmas
 pub mod BeginLemmas
-pub mod StandLemmas
-pub mod SeeLemmas
-pub mod RewriteLemmas
 pub mod TurnLemmas
 pub mod ReachLemmas
 pub mod StepLemmas
 pub mod WriteLemmas
-pub mod PlanLemmas
-pub mod EditLemmas
-pub mod RestLemmas
-pub mod ReplayLemmas

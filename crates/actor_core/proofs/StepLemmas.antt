@@ -15,10 +15,10 @@ use Rattle.core_steps.specs.Turns as turns
 use Rattle.core_steps.specs.Turns.{Passed, turn_of}
 use Rattle.core_steps.specs.Cores.{CoreState, SameCore, actors_of, after_turn, member_at, seen_by, stepped}
 use Rattle.core_steps.specs.Theorem.{IsReached, Settles}
-use Rattle.actor_core.specs.declared.seeing.Lists.{Lists}
+use Rattle.actor_disk.specs.declared.seeing.Lists.{Lists}
 use Rattle.actor_core.specs.declared.turning.Turn.{Turn}
 use Rattle.actor_core.specs.Answers.{Steps, StepsTo}
-use Rattle.actor_core.specs.Seeing.{shown_disk}
+use Rattle.actor_disk.specs.Seeing.{shown_disk}
 use Rattle.actor_core.specs.Shown.{Held, IsCore, state_shown}
 use Rattle.actor_core.specs.Turning.{Turns, TurnsTo, OnceThere, disk_there, doing_next, held_of, lists_there, passed_there}
 use Rattle.actor_core.proofs.ReachLemmas.{steps_settle}

@@ -1,14 +1,13 @@
 -- Turns of an actor.
-use Rattle.std.proofs.Common.{◌≡◌, ◌<◌, ℕ, ℤ, Bool, true, false, List, [], ◌∷◌, ◌++◌, Option, Some, None, length, get_or, slice_get, refl, ap, sym, subst, ◌∙◌, if◌then◌else◌}
+use Rattle.std.proofs.Common.{◌≡◌, ◌<◌, ℕ, ℤ, Bool, true, false, List, [], Option, Some, None, length, get_or, slice_get, refl, ap, sym, subst, ◌∙◌, if◌then◌else◌}
 use Rattle.std.specs.Option.{option_map, option_and_then}
 use Rattle.std.proofs.lemmas.Option.{same_Some, slice_get_read}
 use Rattle.host_port.specs.declared.event.Event.{Event}
 use Rattle.host_port.specs.declared.event.Part.{Part}
 use Rattle.host_port.specs.Disk.{Disk}
 use Rattle.host_port.specs.Ends.{carried_out, cut_short}
-use Rattle.commit_machine.specs.Goes.{reply}
 use Rattle.commit_machine.specs.Laws.{is_foreign}
-use Rattle.commit_machine.specs.Machine.{State, Seizing, Call, next, after_reply, refused}
+use Rattle.commit_machine.specs.Machine.{Call, next}
 use Rattle.actor_ground.specs.CallEnds.{asked}
 use Rattle.core_steps.specs.declared.change.CoreChange.{CoreChange}
 use Rattle.core_steps.specs.declared.actor.Actor.{Actor}
@@ -16,42 +15,23 @@ use Rattle.core_steps.specs.declared.actor.Task.{Task}
 use Rattle.core_steps.specs.declared.actor.Task.TheVariants.{Commit}
 use Rattle.core_steps.specs.declared.actor.Member.{Member}
 use Rattle.core_steps.specs.declared.actor.Past.{Past}
-use Rattle.core_steps.specs.declared.actor.Past.TheVariants.{Shown, Wanted}
+use Rattle.core_steps.specs.declared.actor.Past.TheVariants.{Wanted}
 use Rattle.core_steps.specs.declared.actor.Doing.{Doing}
 use Rattle.core_steps.specs.declared.actor.Doing.TheVariants.{Bracket, Nothing, Stopped}
 use Rattle.core_steps.specs.declared.step.StepKind.{StepKind}
 use Rattle.core_steps.specs.declared.step.StepKind.TheVariants as kind
-use Rattle.core_steps.specs.Tasks.{job_of, may_want, on_time, state_of}
+use Rattle.core_steps.specs.Tasks.{job_of, may_want, state_of}
 use Rattle.core_steps.specs.Turns as turns
-use Rattle.core_steps.specs.Turns.{can_fail, doing_at, doing_then, failing, may_commit, passed_at, shown, wanting, stopping, staying, turn_inside, turn_of, turn_outside}
+use Rattle.core_steps.specs.Turns.{can_fail, doing_then, failing, may_commit, passed_at, shown, wanting, stopping, staying, turn_inside, turn_of, turn_outside}
 use Rattle.core_steps.specs.Cores.{CoreDisk, seen_by, disk_then}
-use Rattle.core_fact.proofs.Pasts.{state-shown, state-wanted}
-use Rattle.actor_core.specs.declared.turning.Goes.{Goes}
+use Rattle.actor_bracket.specs.declared.going.Goes.{Goes}
 use Rattle.actor_core.specs.declared.turning.Told.{Told}
 use Rattle.actor_core.specs.declared.turning.Turn.{Turn}
 use Rattle.actor_core.specs.declared.turning.Next.{Next}
-use Rattle.actor_core.specs.declared.stand.Stand.{Stand}
-use Rattle.actor_core.specs.Seeing.{SameDisks, failed_as, may_fail}
-use Rattle.actor_core.specs.Stands.{changes_of, state_as}
-use Rattle.actor_core.specs.Turning.{Asks, Tells, Turns, TurnsTo, allowed, asked_turn, doing_goes, doing_next, ended_as, is_allowed, told_turn}
-use Rattle.actor_core.proofs.SeeLemmas.{asked_fails, asked_may, asked_own, carried_own, cut_own, failed_own, holder_back, stopped_own}
-
-module _ (a : Actor) (t : Task) (past : List Past) (before now : Stand) (was : state_as (changes_of t) before ≡ state_of a t past) where
-  -- how a bracket goes on once its call was this event
-  pub goes_shown : (e : Event) (goes : Goes) → state_as (changes_of t) now ≡ on_time (after_reply (job_of a t) (state_as (changes_of t) before) (reply e))
-      → ((cs : List CoreChange) (u : Task) (ps : List Past) (p : Past) → doing_goes (Bracket u ps) p goes ≡ doing_at u (ps ++ p ∷ []) (state_as cs now))
-      → doing_goes (Bracket t past) (Shown e) goes ≡ doing_then a t past (Shown e)
-  goes_shown e goes is on =
-      on (changes_of t) t past (Shown e)
-      ∙ ap (doing_at t (past ++ Shown e ∷ [])) (is ∙ ap (λ (s : State). on_time (after_reply (job_of a t) s (reply e))) was ∙ sym (state-shown (job_of a t) Seizing past e))
-
-  -- and once it wanted memory
-  pub goes_wanted : (goes : Goes) → state_as (changes_of t) now ≡ refused (job_of a t) (state_as (changes_of t) before)
-      → ((cs : List CoreChange) (u : Task) (ps : List Past) (p : Past) → doing_goes (Bracket u ps) p goes ≡ doing_at u (ps ++ p ∷ []) (state_as cs now))
-      → doing_goes (Bracket t past) Wanted goes ≡ doing_then a t past Wanted
-  goes_wanted goes is on =
-      on (changes_of t) t past Wanted
-      ∙ ap (doing_at t (past ++ Wanted ∷ [])) (is ∙ ap (refused (job_of a t)) was ∙ sym (state-wanted (job_of a t) Seizing past))
+use Rattle.actor_disk.specs.Seeing.{SameDisks, failed_as, may_fail}
+use Rattle.actor_bracket.specs.Going.{doing_goes}
+use Rattle.actor_core.specs.Turning.{Asks, Tells, Turns, TurnsTo, allowed, asked_turn, doing_next, ended_as, is_allowed, told_turn}
+use Rattle.actor_disk.proofs.SeeLemmas.{asked_fails, asked_may, asked_own, carried_own, cut_own, failed_own, holder_back, stopped_own}
 
 -- what stays as it was seen
 pub same_seen : (k : ℕ) (d : CoreDisk) → SameDisks d (disk_then k d (seen_by k d))
@@ -102,37 +82,23 @@ module _ (d : Disk) (a : Actor) (t : Task) (past : List Past) (c : Call) (e : Ev
       ∙ ap (λ (x : Event). Some (shown a t past d x)) (sym (asked_fails d part c) ∙ ap (λ (x : Event). failed_as d x part) (sym ask))
   turn_so (kind.Stop part) h = ap (λ (x : turns.Turn). Some x) (stop_is part ∙ ap (λ (x : Event). told_turn a t past (kind.Stop part) d (cut_short d x part)) (sym ask))
 
-module _ (d : Disk) (a : Actor) (t : Task) (past : List Past) (step : StepKind) (s : State) (is : s ≡ state_of a t past) where
-  asks_none : None ≡ option_map (asked d) (next (job_of a t) s) → Asks d a t past step None
-  asks_none e = ap (option_and_then (turn_inside a t past step d)) (ap (next (job_of a t)) (sym is) ∙ none_next (asked d) (next (job_of a t) s) e)
+module _ (d : Disk) (a : Actor) (t : Task) (past : List Past) (step : StepKind) where
+  abbrev call : Option Call
+  call = next (job_of a t) (state_of a t past)
 
-  there : (e : Event) → Some e ≡ option_map (asked d) (next (job_of a t) s) → (c : Call) × (next (job_of a t) (state_of a t past) ≡ Some c) × (e ≡ asked d c)
-  there e h = let c = some_next (asked d) (next (job_of a t) s) e h in (c.0, ap (next (job_of a t)) (sym is) ∙ c.1, c.2)
-
-  allowed_is : (e : Event) (want fail b : Bool) → want ≡ may_want s → fail ≡ may_fail e → b ≡ is_allowed step want fail → is_allowed step (may_want (state_of a t past)) (may_fail e) ≡ b
-  allowed_is e want fail b w f h =
-      ap (λ (x : Bool). is_allowed step x (may_fail e)) (ap may_want (sym is) ∙ sym w) ∙ ap (is_allowed step want) (sym f) ∙ sym h
-
-  asks_not : (e : Event) (want fail b : Bool) → Some e ≡ option_map (asked d) (next (job_of a t) s) → want ≡ may_want s → fail ≡ may_fail e → b ≡ is_allowed step want fail → b ≡ false
-      → Asks d a t past step None
-  asks_not e want fail b h w f is_b other =
-      let c = there e h in
-      ap (option_and_then (turn_inside a t past step d)) c.1 ∙ turn_not d a t past c.0 e c.2 step (allowed_is e want fail b w f is_b ∙ other)
-
-  asks_so : (e : Event) (want fail b : Bool) → Some e ≡ option_map (asked d) (next (job_of a t) s) → want ≡ may_want s → fail ≡ may_fail e → b ≡ is_allowed step want fail → b ≡ true
-      → Asks d a t past step (Some e)
-  asks_so e want fail b h w f is_b so = let c = there e h in (c.0, c.1, c.2, allowed_is e want fail b w f is_b ∙ so)
-
-  asks_by : (e : Event) (want b : Bool) → Some e ≡ option_map (asked d) (next (job_of a t) s) → want ≡ may_want s → is_allowed step want (may_fail e) ≡ b
+  asks_by : (e : Event) (c : Call) (b : Bool) → call ≡ Some c → e ≡ asked d c → is_allowed step (may_want (state_of a t past)) (may_fail e) ≡ b
       → Asks d a t past step (if b then Some e else None)
-  asks_by e want true h w is_b = asks_so e want (may_fail e) (is_allowed step want (may_fail e)) h w refl refl is_b
-  asks_by e want false h w is_b = asks_not e want (may_fail e) (is_allowed step want (may_fail e)) h w refl refl is_b
+  asks_by e c true is ask so = (c, is, ask, so)
+  asks_by e c false is ask other = ap (option_and_then (turn_inside a t past step d)) is ∙ turn_not d a t past c e ask step other
 
-  asks_of : (o : Option Event) (want : Bool) → o ≡ option_map (asked d) (next (job_of a t) s) → want ≡ may_want s → Asks d a t past step (allowed step want o)
-  asks_of None want h w = asks_none h
-  asks_of (Some e) want h w = asks_by e want (is_allowed step want (may_fail e)) h w refl
+  asks_of : (o : Option Event) (want : Bool) → o ≡ option_map (asked d) call → want ≡ may_want (state_of a t past) → Asks d a t past step (allowed step want o)
+  asks_of None want h w = ap (option_and_then (turn_inside a t past step d)) (none_next (asked d) call h)
+  asks_of (Some e) want h w =
+      let c = some_next (asked d) call e h in
+      asks_by e c.0 (is_allowed step want (may_fail e)) c.1 c.2 (ap (λ (x : Bool). is_allowed step x (may_fail e)) (sym w))
 
-  pub asks_is : (o result : Option Event) (want : Bool) → o ≡ option_map (asked d) (next (job_of a t) s) → want ≡ may_want s → result ≡ allowed step want o → Asks d a t past step result
+  -- what is asked, if the step is allowed
+  pub asks_is : (o result : Option Event) (want : Bool) → o ≡ option_map (asked d) call → want ≡ may_want (state_of a t past) → result ≡ allowed step want o → Asks d a t past step result
   asks_is o result want h w r = subst (Asks d a t past step) (sym r) (asks_of o want h w)
 
 pub own_ask : (d : Disk) (a : Actor) (t : Task) (past : List Past) (step : StepKind) (e : Event) → Asks d a t past step (Some e) → is_foreign e ≡ false

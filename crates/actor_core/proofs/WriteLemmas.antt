@@ -16,7 +16,7 @@ use Rattle.core_steps.specs.Tasks.{job_of, state_of}
 use Rattle.core_steps.specs.Theorem.{IsReached}
 use Rattle.core_steps.proofs.Fact.{Fact}
 use Rattle.core_fact.proofs.Reached.{reached_fact}
-use Rattle.actor_core.specs.Stands.{Writes}
+use Rattle.actor_bracket.specs.Stands.{Writes}
 use Rattle.actor_core.proofs.StepLemmas.{member_is}
 
 known_writes : (j : Job) (s : State) (d : Disk) → Knows j s d → Writes j s

@@ -1,5 +1,5 @@
 -- What a turn of an actor leaves, as it is told apart by what changes.
-use Rattle.std.specs.Prelude.{◌≡◌, ℕ, Bool, true, false, List, [], ◌∷◌, ◌++◌, Option, Some, None, if◌then◌else◌}
+use Rattle.std.specs.Prelude.{◌≡◌, ℕ, Bool, true, false, List, [], ◌∷◌, Option, Some, None, if◌then◌else◌}
 use Rattle.std.specs.Option.{option_and_then}
 use Rattle.host_port.specs.declared.event.Event.{Event}
 use Rattle.host_port.specs.Disk.{Disk, after}
@@ -20,22 +20,14 @@ use Rattle.actor_ground.specs.CallEnds.{asked}
 use Rattle.core_steps.specs.Tasks.{job_of, may_want, state_of}
 use Rattle.core_steps.specs.Turns.{Passed, passed_at, shown, turn_inside, wanting}
 use Rattle.core_steps.specs.Cores.{CoreDisk, disk_then}
-use Rattle.actor_core.specs.declared.seeing.Lists.{Lists}
+use Rattle.actor_bracket.specs.Going.{doing_goes, with_past}
+use Rattle.actor_disk.specs.declared.seeing.Lists.{Lists}
 use Rattle.actor_core.specs.declared.turning.Next.{Next}
 use Rattle.actor_core.specs.declared.turning.Next.TheVariants.{Begins, GoesOn, Through, Stops}
-use Rattle.actor_core.specs.declared.turning.Goes.{Goes}
-use Rattle.actor_core.specs.declared.turning.Goes.TheVariants.{On}
-use Rattle.actor_core.specs.declared.turning.Goes.TheVariants as goes
 use Rattle.actor_core.specs.declared.turning.Told.{Told}
 use Rattle.actor_core.specs.declared.turning.Turn.{Turn}
-use Rattle.actor_core.specs.Seeing.{SameDisks, failed_as, may_fail, shown_disk}
+use Rattle.actor_disk.specs.Seeing.{SameDisks, failed_as, may_fail, shown_disk}
 use Rattle.actor_core.specs.Shown.{Held}
-
--- one thing more has happened in a bracket
-abbrev pub with_past : Doing → Past → Doing
-with_past Nothing p = Nothing
-with_past (Bracket t past) p = Bracket t (past ++ p ∷ [])
-with_past Stopped p = Stopped
 
 -- what an actor does next that did this
 abbrev pub doing_next : Doing → Next → Doing
@@ -43,12 +35,6 @@ doing_next old (Begins t) = Bracket t []
 doing_next old (GoesOn p) = with_past old p
 doing_next old Through = Nothing
 doing_next old Stops = Stopped
-
--- what an actor does whose bracket goes on so, in which this happened
-abbrev pub doing_goes : Doing → Past → Goes → Doing
-doing_goes old p On = with_past old p
-doing_goes old p goes.Through = Nothing
-doing_goes old p goes.Stops = Stopped
 
 -- what was asked, as it ends by a step
 abbrev pub ended_as : Disk → StepKind → Event → Event

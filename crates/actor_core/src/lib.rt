@@ -2,19 +2,8 @@
 //! them would leave.
 #![tactic(auto)]
 
-mod asking;
-mod closing;
-mod copies;
-mod editing;
 mod error;
-mod folding;
 mod many;
-mod planning;
-mod rewriting;
-mod seeing;
-mod settling;
-mod stand;
-mod starting;
 mod taking;
 mod turning;
 

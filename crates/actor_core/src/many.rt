@@ -10,10 +10,8 @@ ghost use Rattle.actor_core.specs.Answers.{Begins, KeepsMessages, Steps};
 ghost use Rattle.actor_core.specs.Shown.{state_shown};
 
 use crate::CoreError;
-use crate::seeing::Lists;
-use crate::settling::settled_view;
-use crate::starting::{first_bad, first_taken};
 use crate::taking::take_step;
+use actor_disk::{Lists, first_bad, first_taken, settled_view};
 use core_steps::{Actor, CoreChange, CoreStep, Doing, Member};
 use host_port::DiskView;
 use mail_text::{Items, Memory, Text};

@@ -1,12 +1,12 @@
 // A turn that is taken: what an actor does then, what stands, and the commit place.
-ghost use Rattle.std.specs.Prelude.{◌≡◌, ◌⊎◌, ◌<◌, ◌+◌, ◌++◌, None, Some, List, IfOk, IfSome, OnOk, OnErr, length, slice_get, slice_set};
+ghost use Rattle.std.specs.Prelude.{◌≡◌, ◌⊎◌, ◌<◌, ◌+◌, ◌++◌, None, Some, IfOk, IfSome, OnOk, OnErr, length, slice_get, slice_set};
 ghost use Rattle.core_steps.specs.declared.actor.Member.{Member};
 ghost use Rattle.actor_core.specs.Answers.{Steps};
 ghost use Rattle.actor_core.specs.Shown.{IsCore};
 ghost use Rattle.actor_core.specs.Turning.{doing_next, held_of, lists_there, passed_there, with_past};
 
-use crate::seeing::Lists;
 use crate::turning::{Next, Turn, turn_of};
+use actor_disk::Lists;
 use core_steps::{CoreChange, CoreStep, Doing, Member, Past};
 use mail_text::{Items, Memory, Reserved};
 use std::alloc::Global;

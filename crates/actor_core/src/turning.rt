@@ -1,5 +1,5 @@
 // A step of one actor: what it does next, what stands then, and the commit place that it passes.
-ghost use Rattle.std.specs.Prelude.{◌≡◌, ◌<◌, ◌&&◌, ◌∷◌, ◌++◌, [], true, false, not, Bool, ℕ, List, Some, IfOk, OnOk, length, map, nat_le, nat_lt, slice_get};
+ghost use Rattle.std.specs.Prelude.{◌≡◌, ◌<◌, ◌&&◌, [], true, false, not, Bool, ℕ, List, Some, IfOk, OnOk, length, map, nat_le, nat_lt, slice_get};
 ghost use Rattle.std.specs.List.{list_all};
 ghost use Rattle.commit_record.specs.Format.{file_limit};
 ghost use Rattle.host_port.specs.declared.event.Event.TheVariants.{Publish};
@@ -25,17 +25,16 @@ ghost use Rattle.core_steps.specs.declared.step.StepKind.TheVariants as kind;
 ghost use Rattle.core_steps.specs.Cores.{CoreDisk, seen_by};
 ghost use Rattle.core_steps.specs.Names.{is_file_name};
 ghost use Rattle.core_steps.specs.Tasks.{job_of, state_of};
-ghost use Rattle.core_steps.specs.Turns.{doing_at, doing_then, is_any_record_name, may_commit, passed_at, shown, staying, turn_of, turn_outside, wanting};
-ghost use Rattle.actor_core.specs.Seeing.{shown_disk};
-ghost use Rattle.actor_core.specs.Stands.{Writes, state_as};
-ghost use Rattle.actor_core.specs.Turning.{Asks, Tells, Turns, TurnsTo, allowed, asked_turn, doing_goes, doing_next, ended_as, is_allowed, passed_there, told_turn};
+ghost use Rattle.core_steps.specs.Turns.{is_any_record_name, may_commit, passed_at, shown, staying, turn_of, turn_outside, wanting};
+ghost use Rattle.actor_disk.specs.Seeing.{shown_disk};
+ghost use Rattle.actor_bracket.specs.Going.{doing_goes};
+ghost use Rattle.actor_bracket.specs.Stands.{Writes};
+ghost use Rattle.actor_core.specs.Turning.{Asks, Tells, Turns, TurnsTo, allowed, asked_turn, doing_next, ended_as, is_allowed, passed_there, told_turn};
 
-use crate::asking::next_asked;
-use crate::copies::copy_changes;
-use crate::folding::{after_event, may_want, record_of, refused, replayed};
-use crate::planning::files_named;
-use crate::seeing::{Lists, fail, happen, happen_last, may_fail, seen_by};
-use crate::stand::{Ending, Stand};
+use actor_bracket::{
+    Goes, copy_changes, files_named, goes_after, goes_wanting, next_call, record_of,
+};
+use actor_disk::{Lists, fail, happen, happen_last, may_fail, seen_by};
 use actor_ground::is_go;
 use commit_machine::{is_record_name, new_name, record_name, right_name};
 use commit_record::{FILE_LIMIT, is_lawful};
@@ -64,14 +63,6 @@ pub(crate) struct Turn {
     pub doing: Next,
     pub there: Option<Lists>,
     pub passed: Option<(u64, Items<CoreChange>)>,
-}
-
-/// How a bracket goes on.
-#[derive(Clone, Copy)]
-pub(crate) enum Goes {
-    On,
-    Through,
-    Stops,
 }
 
 /// What stands after an event, the commit place that it was, if it was one, and how the bracket goes on.
@@ -158,18 +149,6 @@ fn passed_at(
     }
 }
 
-// How a bracket goes on that has come so far.
-fn goes_of(stand: &Stand) -> Goes
-    ensures { (cs : List CoreChange) (t : Task) (ps : List Past) (p : Past)
-        → doing_goes (Bracket t ps) p result ≡ doing_at t (ps ++ p ∷ []) (state_as cs stand.now) }
-{
-    match stand {
-        Stand::Ended(Ending::Failed(_)) => Goes::Stops,
-        Stand::Ended(_) => Goes::Through,
-        _ => Goes::On,
-    }
-}
-
 // What an actor does next whose bracket goes on so, in which this happened.
 fn next_of(goes: Goes, past: Past) -> Next
     ensures { (old : Doing) → doing_next old result ≡ doing_goes old past goes }
@@ -179,32 +158,6 @@ fn next_of(goes: Goes, past: Past) -> Next
         Goes::Through => Next::Through,
         Goes::Stops => Next::Stops,
     }
-}
-
-// How a bracket goes on once its call was this event.
-fn goes_after(
-    alloc: Global,
-    actor: &Actor,
-    task: &Task,
-    past: &[Past],
-    event: &Event,
-) -> Result<Goes, Memory>
-    ensures { IfOk result (λ g. doing_goes (Bracket task.now past.now) (Shown event.now) g
-        ≡ doing_then actor.now task.now past.now (Shown event.now)) }
-{
-    let before = replayed(alloc, actor, task, past)?;
-    let stand = after_event(alloc, actor, task, before, event)?;
-    Ok(goes_of(&stand))
-}
-
-// How it goes on once it wanted memory.
-fn goes_wanting(alloc: Global, actor: &Actor, task: &Task, past: &[Past]) -> Result<Goes, Memory>
-    ensures { IfOk result (λ g. doing_goes (Bracket task.now past.now) Wanted g
-        ≡ doing_then actor.now task.now past.now Wanted) }
-{
-    let before = replayed(alloc, actor, task, past)?;
-    let stand = refused(alloc, actor, task, before)?;
-    Ok(goes_of(&stand))
 }
 
 // A call that was this event.
@@ -341,9 +294,8 @@ fn ask(
     requires { Writes (job_of actor.now task.now) (state_of actor.now task.now past.now) }
     ensures { IfOk result (λ o. Asks (disk_now disk.now) actor.now task.now past.now kind.now o) }
 {
-    let stand = replayed(alloc, actor, task, past)?;
-    let asked = next_asked(alloc, actor, task, &stand, disk)?;
-    Ok(allowed(asked, kind, may_want(&stand)))
+    let next = next_call(alloc, actor, task, past, disk)?;
+    Ok(allowed(next.event, kind, next.may_want))
 }
 
 // A want of memory.

@@ -6,7 +6,7 @@ use Rattle.commit_machine.specs.Laws.{is_foreign}
 use Rattle.core_steps.specs.declared.actor.Doing.TheVariants.{Bracket}
 use Rattle.core_steps.specs.declared.actor.Past.TheVariants.{Shown}
 use Rattle.core_steps.specs.Cores.{seen_by}
-use Rattle.actor_core.specs.Seeing.{shown_disk}
+use Rattle.actor_disk.specs.Seeing.{shown_disk}
 use Rattle.actor_core.specs.Turning.{ended_as, told_turn}
 use Rattle.actor_core.proofs.TurnLemmas.{ended_own, told_at, turns_as}
 use Rattle.actor_core.proofs.turning.call.Goals as goal

@@ -3,7 +3,7 @@ use Rattle.core_steps.specs.declared.actor.Doing.TheVariants.{Bracket}
 use Rattle.core_steps.specs.declared.actor.Past.TheVariants.{Shown}
 use Rattle.core_steps.specs.declared.step.StepKind.{StepKind}
 use Rattle.core_steps.specs.Cores.{seen_by}
-use Rattle.actor_core.specs.Seeing.{shown_disk}
+use Rattle.actor_disk.specs.Seeing.{shown_disk}
 use Rattle.actor_core.specs.Turning.{told_turn}
 use Rattle.actor_core.proofs.TurnLemmas.{tells_as, told_rest}
 use Rattle.actor_core.proofs.turning.tell.Goals as goal

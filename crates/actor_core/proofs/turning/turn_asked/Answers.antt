@@ -2,7 +2,7 @@ use Rattle.std.proofs.Common.{ap, sym}
 use Rattle.core_steps.specs.declared.actor.Doing.TheVariants.{Bracket}
 use Rattle.core_steps.specs.declared.step.StepKind.{StepKind}
 use Rattle.core_steps.specs.Cores.{seen_by}
-use Rattle.actor_core.specs.Seeing.{shown_disk}
+use Rattle.actor_disk.specs.Seeing.{shown_disk}
 use Rattle.actor_core.specs.Turning.{asked_turn}
 use Rattle.actor_core.proofs.TurnLemmas.{asked_rest, turns_as}
 use Rattle.actor_core.proofs.turning.turn_asked.Goals as goal

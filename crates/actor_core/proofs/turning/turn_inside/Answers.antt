@@ -1,6 +1,6 @@
 use Rattle.std.proofs.Common.{subst}
 use Rattle.memory_disk.specs.Standings.{disk_now}
-use Rattle.actor_core.specs.Seeing.{shown_disk}
+use Rattle.actor_disk.specs.Seeing.{shown_disk}
 use Rattle.actor_core.specs.Turning.{Asks}
 use Rattle.actor_core.proofs.TurnLemmas.{none_at, own_ask, some_at}
 use Rattle.actor_core.proofs.turning.turn_inside.Goals as goal

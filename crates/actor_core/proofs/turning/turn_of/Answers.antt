@@ -1,8 +1,8 @@
 use Rattle.std.proofs.Common.{List, map, sym, subst}
 use Rattle.core_steps.specs.declared.actor.Past.{Past}
 use Rattle.core_steps.specs.Tasks.{job_of, state_of}
-use Rattle.actor_core.specs.Seeing.{shown_disk}
-use Rattle.actor_core.specs.Stands.{Writes}
+use Rattle.actor_disk.specs.Seeing.{shown_disk}
+use Rattle.actor_bracket.specs.Stands.{Writes}
 use Rattle.actor_core.proofs.TurnLemmas.{inside_turn, member_read, of_member, outside_turn, stopped_turn}
 use Rattle.actor_core.proofs.turning.turn_of.Goals as goal
 

@@ -3,7 +3,7 @@ use Rattle.host_port.specs.Disk.{SameDisk}
 use Rattle.memory_disk.specs.Lists.{named, disk_of}
 use Rattle.memory_disk.specs.Standings.{disk_now}
 use Rattle.actor_core.specs.Shown.{Held}
-use Rattle.actor_core.specs.Starting.{LooksGood, TakesFirst}
+use Rattle.actor_disk.specs.Starting.{LooksGood, TakesFirst}
 use Rattle.actor_core.proofs.BeginLemmas.{none_left, same_lists, bad_there, taken_there, shown_same, begins_there, core_there}
 use Rattle.actor_core.proofs.many.Core.new.Goals as goal
 

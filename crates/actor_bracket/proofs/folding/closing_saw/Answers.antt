@@ -1,0 +1,7 @@
+use Rattle.std.proofs.Common.{sym, ◌∙◌}
+use Rattle.actor_bracket.specs.Stands.{then_as}
+use Rattle.actor_bracket.proofs.RestLemmas.{closing_saw_rest}
+use Rattle.actor_bracket.proofs.folding.closing_saw.Goals as goal
+
+pub returns-in_default : goal.returns-in_default
+returns-in_default c = λ cs j. c.failing.ensures cs ∙ sym (closing_saw_rest j c.args.value c.args.closing (then_as c.args.then) c.args.file c.in_default.not-Testing)

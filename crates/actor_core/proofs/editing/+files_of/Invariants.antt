@@ -1,5 +1,0 @@
-use Rattle.std.proofs.Common.{length}
-use Rattle.actor_core.proofs.editing.+files_of.Given as goal
-
-abbrev pub decreases-files_of : goal.decreases-files_of
-decreases-files_of l = length l.made.now

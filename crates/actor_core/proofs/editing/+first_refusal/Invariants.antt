@@ -1,5 +1,0 @@
-use Rattle.std.proofs.Common.{length}
-use Rattle.actor_core.proofs.editing.+first_refusal.Given as goal
-
-abbrev pub decreases-first_refusal : goal.decreases-first_refusal
-decreases-first_refusal l = length l.changes.now

@@ -1,5 +1,0 @@
-use Rattle.std.proofs.Common.{length}
-use Rattle.actor_core.proofs.editing.+only_adds.Given as goal
-
-abbrev pub decreases-only_adds : goal.decreases-only_adds
-decreases-only_adds l = length l.changes.now

@@ -1,7 +1,0 @@
-use Rattle.std.proofs.Common.{◌≡◌, map, take}
-use Rattle.commit_machine.specs.Items.{found_item}
-use Rattle.actor_core.specs.Stands.{items_as}
-use Rattle.actor_core.proofs.folding.found_items.Given as goal
-
-abbrev pub invariant-loop-entry : goal.invariant-loop-entry
-invariant-loop-entry l = items_as l.list ≡ map found_item (take l.entry-index l.entries)

@@ -1,5 +1,0 @@
-use Rattle.std.proofs.Common.{length}
-use Rattle.actor_core.proofs.planning.+way_at.Given as goal
-
-abbrev pub decreases-way_at : goal.decreases-way_at
-decreases-way_at l = length l.made.now

@@ -1,6 +1,0 @@
-use Rattle.std.proofs.Common.{◌≡◌, ◌++◌, take}
-use Rattle.mbox_scan.specs.Mailbox.{join}
-use Rattle.actor_core.proofs.rewriting.push_texts.Given as goal
-
-abbrev pub invariant-loop-text : goal.invariant-loop-text
-invariant-loop-text l = l.file ≡ l.initial.file ++ join (take l.text-index l.texts)

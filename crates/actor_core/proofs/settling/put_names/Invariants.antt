@@ -1,5 +1,0 @@
-use Rattle.std.proofs.Common.{◌≡◌, ◌++◌, map, take}
-use Rattle.actor_core.proofs.settling.put_names.Given as goal
-
-abbrev pub invariant-loop-entry : goal.invariant-loop-entry
-invariant-loop-entry l = l.names ≡ l.initial.names ++ map (λ e. e.name) (take l.entry-index l.entries)

@@ -1,5 +1,0 @@
-use Rattle.std.proofs.Common.{length}
-use Rattle.actor_core.proofs.starting.+name_a_record.Given as goal
-
-abbrev pub decreases-name_a_record : goal.decreases-name_a_record
-decreases-name_a_record l = length l.entries.now

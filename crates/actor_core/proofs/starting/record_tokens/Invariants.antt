@@ -1,7 +1,0 @@
-use Rattle.std.proofs.Common.{◌≡◌, take}
-use Rattle.memory_disk.specs.Lists.{named}
-use Rattle.actor_core.specs.Starting.{record_tokens}
-use Rattle.actor_core.proofs.starting.record_tokens.Given as goal
-
-abbrev pub invariant-loop-actor : goal.invariant-loop-actor
-invariant-loop-actor l = l.tokens ≡ record_tokens (named l.files) (take l.actor-index l.actors)

@@ -1,6 +1,0 @@
-use Rattle.actor_core.proofs.TurnLemmas.{goes_wanted}
-use Rattle.actor_core.proofs.turning.goes_wanting.Goals as goal
-
-pub returns : goal.returns
-returns c =
-    goes_wanted c.args.actor.now c.args.task.now c.args.past.now c.in_ok-before.before c.in_ok-stand.stand c.in_ok-before.ensures c.goes_of.result c.in_ok-stand.ensures c.goes_of.ensures

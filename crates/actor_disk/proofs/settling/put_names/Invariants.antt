@@ -1,0 +1,5 @@
+use Rattle.std.proofs.Common.{◌≡◌, ◌++◌, map, take}
+use Rattle.actor_disk.proofs.settling.put_names.Given as goal
+
+abbrev pub invariant-loop-entry : goal.invariant-loop-entry
+invariant-loop-entry l = l.names ≡ l.initial.names ++ map (λ e. e.name) (take l.entry-index l.entries)
