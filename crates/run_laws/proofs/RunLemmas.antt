@@ -39,6 +39,7 @@ run_promises_stand start env status d front rest run may =
     let ending = subst (Ending (actor_said env) (may_say start) status w.out) (sym parts.4) w.ending in
     let looks = ending-looks (actor_said env) (may_say start) status w.out (own parts.1) ending in (
       read.0,
+      record { out = w.out; played = parts.0; looked = parts.1; is = parts.2; plays = read.1; looks = looks },
       up_to (actor_in env) env.token d read.0 front
           (looked_front (actor_in env) env.token may.fits (round env) (StateOf env (actor_in env) env.token) (round-commits env (actor_in env) env.token) (round-of env (actor_in env) env.token)
           parts.0 parts.1 front rest (settled_files (actor_in env) d) (settled_locks (actor_in env) d) (sym parts.2) (refl, refl)

@@ -101,8 +101,8 @@ pub fn runs_are_lawful()
     ensures { RunsAreLawful }
 {}
 
-/// Up to a moment others did what is lawful. Then what was due up to there, by the decisions of some list of commits, stands,
-/// whatever others do after it. That these are the run's own commits isn't said here.
+/// Up to a moment others did what is lawful. Then what was due up to there, by the decisions of the run's own commits, stands,
+/// whatever others do after it.
 pub fn run_promises_stand()
     ensures { RunPromisesStand }
 {}
