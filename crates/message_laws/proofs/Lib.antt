@@ -1,0 +1,5 @@
+pub mod ChangeLemmas
+pub mod LeavingLemmas
+pub mod KindLemmas
+pub mod RunLemmas
+pub mod RowLemmas
