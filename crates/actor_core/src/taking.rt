@@ -3,7 +3,8 @@ ghost use Rattle.std.specs.Prelude.{◌≡◌, ◌⊎◌, ◌<◌, ◌+◌, ◌+
 ghost use Rattle.core_steps.specs.declared.actor.Member.{Member};
 ghost use Rattle.actor_core.specs.Answers.{Steps};
 ghost use Rattle.actor_core.specs.Shown.{IsCore};
-ghost use Rattle.actor_core.specs.Turning.{doing_next, held_of, lists_there, passed_there, with_past};
+ghost use Rattle.actor_bracket.specs.Going.{with_past};
+ghost use Rattle.actor_core.specs.Turning.{doing_next, held_of, lists_there, passed_there};
 
 use crate::turning::{Next, Turn, turn_of};
 use actor_disk::Lists;
