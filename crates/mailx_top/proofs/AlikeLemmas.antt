@@ -144,7 +144,7 @@ line-alike s i j (Some p) = then-alike (NextAlike Same) i j (waiting_play (resum
 
 drafts-alike : (b : Bool) (s : SessionState) (i j : Input)
     → Rounds i j (if b then bind (ended_draft s) (with_finishing i) else Ret (Go (Leaving (line_ended s) i)))
-      (if b then bind (ended_draft s) (with_finishing j) else Ret (Go (Leaving (line_ended s) j)))
+    (if b then bind (ended_draft s) (with_finishing j) else Ret (Go (Leaving (line_ended s) j)))
 drafts-alike true s i j = then-alike (NextAlike Same) i j (ended_draft s) (with_finishing i) (with_finishing j) (ended-none s) (finishing-alike i j)
 drafts-alike false s i j = ret leaves
 
