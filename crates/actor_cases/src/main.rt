@@ -25,9 +25,9 @@
 //! `all` goes through the states that the orders come to, each once, and counts the orders. In each state what recovery
 //! by all would leave is compared with the files of the start and the changes of the commit places, in order, which a
 //! fold of its own makes; behind the recoveries these files stand, and nothing else. It prints how many states there
-//! were, how many of them were wrong, with the calls that come to the first; and how many orders end with which commit
+//! were, how many of them were wrong, with the steps that come to the first; and how many orders end with which commit
 //! places. `cuts` cuts each call, in each way and with each part of it done, in each Kth of these states, and goes on
-//! from there in all orders; it prints in how many states it did, and of the states behind the cuts the same.
+//! from there in all orders; it prints in how many states it did, and of the orders with a cut the same.
 #![tactic(auto)]
 
 mod changes;

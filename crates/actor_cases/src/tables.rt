@@ -42,16 +42,15 @@ struct State {
     came: Came,
 }
 
-// A table: who recovers last, and what came of it so far. Each `every`th state without a cut has its calls cut, if that
-// isn't 0. What counts are then the states and orders with a cut, and else those without one.
+// A table: who recovers last, and what came of it so far. Each `every`th of the states without a cut has its calls cut, if
+// that isn't 0. The orders that count are then those with a cut, and else those without one.
 #[derive(Drop)]
 struct Table<'a> {
     script: &'a Script<'a>,
     heirs: &'a str,
     every: u64,
-    whole: u64,
-    cut_at: u64,
     states: u64,
+    cut_at: u64,
     wrong: u64,
     first: Answer,
     ends: Items<(Text, u64)>,
@@ -138,16 +137,13 @@ fn place_of(states: &[State], core: &Core, key: &[u8], was_cut: bool) -> Option<
     None
 }
 
-// Counts a new state: whether the calls from there are cut.
+// Counts a new state, if no call was cut before it: whether the calls from there are cut.
 fn count(table: &mut Table<'_>, was_cut: bool) -> bool {
-    if was_cut == (table.every > 0) {
-        table.states = table.states.saturating_add(1);
-    }
-    if was_cut || table.every == 0 {
+    if was_cut {
         return false;
     }
-    table.whole = table.whole.saturating_add(1);
-    let cuts = table.whole % table.every.max(1) == 0;
+    table.states = table.states.saturating_add(1);
+    let cuts = table.every > 0 && table.states % table.every.max(1) == 0;
     if cuts {
         table.cut_at = table.cut_at.saturating_add(1);
     }
@@ -361,7 +357,7 @@ fn go_through(table: &mut Table<'_>, out: &mut Answer) {
 fn put_table(table: &Table<'_>, out: &mut Answer) {
     if table.every > 0 {
         out.put_shown(&table.cut_at);
-        out.put_plain(b" states cut, ");
+        out.put_plain(b" of ");
     }
     out.put_shown(&table.states);
     out.put_plain(b" states");
@@ -387,9 +383,8 @@ pub fn put_orders(script: &Script<'_>, rest: &str, cuts: bool, out: &mut Answer)
         script,
         heirs,
         every: number(every),
-        whole: 0,
-        cut_at: 0,
         states: 0,
+        cut_at: 0,
         wrong: 0,
         first: Answer::new(out.alloc()),
         ends: Items::new(out.alloc()),
